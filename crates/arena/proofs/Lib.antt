@@ -11,3 +11,4 @@ mod Taken
 mod TakenNodes
 mod Bools
 pub mod Lemmas
+mod Places

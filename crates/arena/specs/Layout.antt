@@ -10,7 +10,7 @@ use Rattle.arena.specs.declared.word.SettledPart.TheVariants.{Head}
 use Rattle.arena.specs.declared.word.ScxWord.TheVariants.{State}
 use Rattle.arena.specs.declared.word.Word.{Word}
 use Rattle.arena.specs.declared.word.Word.TheVariants.{Node, Scx}
-pub use Rattle.arena.specs.Opening.{is_map, nodes_at_start, IsMap}
+pub use Rattle.arena.specs.Opening.{is_map, node_size, nodes_at_start, IsMap}
 pub use Rattle.arena.specs.Openings.{tree_opening, records_opening, opening}
 use Rattle.arena.specs.Words.{node_place, scx_place, IsScxWord}
 
@@ -38,25 +38,25 @@ first_scx lay c = 1 + c * lay.scx
 
 -- how many words the table has
 abbrev pub table_size : Layout → ℕ
-table_size lay = 18 * all_nodes lay + 14 * all_scx lay
+table_size lay = node_size lay.mode * all_nodes lay + 14 * all_scx lay
 
 -- where the words of a node begin in the table
-abbrev pub node_start : NodeNo → ℕ
-node_start n = 18 * n.0
+abbrev pub node_start : Layout → NodeNo → ℕ
+node_start lay n = node_size lay.mode * n.0
 
 -- and where those of an SCX-record do, after all nodes
 abbrev pub scx_start : Layout → ScxNo → ℕ
-scx_start lay s = 18 * all_nodes lay + 14 * s.0
+scx_start lay s = node_size lay.mode * all_nodes lay + 14 * s.0
 
 -- where the words of a word's node or SCX-record begin
 abbrev pub start_of : Layout → Word → ℕ
-start_of lay (Node n part) = node_start n
+start_of lay (Node n part) = node_start lay n
 start_of lay (Scx s part) = scx_start lay s
 
 -- the place of a word in the table
 abbrev pub place : Layout → Word → ℕ
-place lay (Node n part) = 18 * n.0 + node_place part
-place lay (Scx s part) = 18 * all_nodes lay + 14 * s.0 + scx_place part
+place lay (Node n part) = node_size lay.mode * n.0 + node_place part
+place lay (Scx s part) = node_size lay.mode * all_nodes lay + 14 * s.0 + scx_place part
 
 -- the table has this word
 abbrev pub IsWord : Layout → Word → Type 0

@@ -13,6 +13,13 @@ is_map Records = false
 abbrev pub IsMap : Mode → Type 0
 IsMap mode = is_map mode ≡ true
 
+-- how many words a node has in a table of this mode. In a trie the words by which a walk passes it
+-- are in one line of the cache wherever the nodes begin; in a tree nodes take less memory
+abbrev pub node_size : Mode → ℕ
+node_size Tree = 18
+node_size Trie = 24
+node_size Records = 18
+
 -- how many nodes are there from the start: the three of an empty map and those that are planted
 -- with its first pairs, or node 0 and the cells 1 to 8
 abbrev pub nodes_at_start : Mode → ℕ → ℕ

@@ -1,6 +1,6 @@
 //! Where each word is in the table.
 ghost use Rattle.std.specs.Prelude.{◌≡◌, ℕ, ◌+◌, ◌*◌, ◌<◌, ◌≤◌, ◌↔◌, IsTrue, IsSome, IfSome};
-ghost use Rattle.arena.specs.Opening.{nodes_at_start};
+ghost use Rattle.arena.specs.Opening.{node_size, nodes_at_start};
 
 use crate::limits::{Limits, Mode};
 use crate::number::{NodeNo, PassNo, ScxNo};
@@ -22,11 +22,17 @@ pub struct Layout {
     /// How many words the nodes have. Those of the SCX-records are after them: computed once,
     /// since each step on such a word needs it.
     node_words: u32,
+    /// How many words there are in all. That 32 bits hold it bounds each table. A clause may speak
+    /// of a layout with up to 2^50 numbers of nodes and of SCX-records for each pass: one of a
+    /// table that takes some places again and again, under a new number each time.
+    words: u32,
     ghost passes_fit: { passes ≤ 32 },
-    ghost nodes_fit: { nodes ≤ 32768 },
-    ghost scx_fit: { scx ≤ 32768 },
+    ghost nodes_fit: { nodes ≤ 1125899906842624 },
+    ghost scx_fit: { scx ≤ 1125899906842624 },
     ghost planted_fit: { planted ≤ 67108864 },
-    ghost counted: { node_words ≡ 18 * (nodes_at_start mode planted + passes * nodes) },
+    ghost counted: { node_words ≡ node_size mode * (nodes_at_start mode planted + passes * nodes) },
+    ghost many: { 18 * (nodes_at_start mode planted + passes * nodes) ≤ node_words },
+    ghost all_counted: { words ≡ node_words + 14 * (1 + passes * scx) },
 }
 
 impl Layout {
@@ -45,13 +51,37 @@ impl Layout {
             scx,
             ..
         } = limits;
+        let node_words = words_of(mode, nodes_at_start(mode, 0) + passes * nodes);
         Layout {
             mode,
             passes,
             nodes,
             scx,
             planted: 0,
-            node_words: 18 * (nodes_at_start(mode, 0) + passes * nodes),
+            node_words,
+            words: node_words + 14 * (1 + passes * scx),
+        }
+    }
+
+    /// This layout, of an empty table, with so many planted nodes.
+    pub fn with_planted(&self, planted: u32) -> Layout
+        requires nodes { planted + self.now.passes * self.now.nodes ≤ 1048576 }
+        requires scx { self.now.scx ≤ 32768 }
+        ensures planted { result.planted ≡ planted }
+        ensures mode { result.mode ≡ self.now.mode }
+        ensures shares { (result.passes ≡ self.now.passes) × (result.nodes ≡ self.now.nodes)
+            × (result.scx ≡ self.now.scx) }
+    {
+        let all = nodes_at_start(self.mode, planted) + self.passes * self.nodes;
+        let node_words = words_of(self.mode, all);
+        Layout {
+            mode: self.mode,
+            passes: self.passes,
+            nodes: self.nodes,
+            scx: self.scx,
+            planted,
+            node_words,
+            words: node_words + 14 * (1 + self.passes * self.scx),
         }
     }
 
@@ -66,8 +96,9 @@ impl Layout {
     /// How many nodes there are in all.
     pub fn all_nodes(&self) -> u32
         ensures nodes { result ≡ all_nodes self.now }
-        ensures fits { result ≤ 68157449 }
+        ensures fits { result ≤ 238609294 }
     {
+        let _words = self.node_words;
         self.opening() + self.passes * self.nodes
     }
 
@@ -75,8 +106,9 @@ impl Layout {
     #[inline(always)]
     pub fn all_scx(&self) -> u32
         ensures scx { result ≡ all_scx self.now }
-        ensures fits { result ≤ 1048577 }
+        ensures fits { result ≤ 306783378 }
     {
+        let _words = self.words;
         1 + self.passes * self.scx
     }
 
@@ -85,6 +117,7 @@ impl Layout {
         requires { pass.0 < self.now.passes }
         ensures { result ≡ first_node self.now pass.0 }
     {
+        let _words = self.node_words;
         self.opening() + pass.0 * self.nodes
     }
 
@@ -93,6 +126,7 @@ impl Layout {
         requires { pass.0 < self.now.passes }
         ensures { result ≡ first_scx self.now pass.0 }
     {
+        let _words = self.words;
         1 + pass.0 * self.scx
     }
 
@@ -100,7 +134,7 @@ impl Layout {
     pub fn size(&self) -> usize
         ensures { result ≡ table_size self.now }
     {
-        self.node_words as usize + 14 * self.all_scx() as usize
+        self.words as usize
     }
 
     /// The pass that owns an SCX-record; none for the dummy, and for a number beyond the last.
@@ -131,13 +165,17 @@ impl Layout {
         }
     }
 
-    /// Where the words of a node begin in the table.
+    /// Where the words of a node begin in the table, if a node has so many. A caller that knows the
+    /// mode as it is compiled multiplies by a constant.
     #[inline(always)]
-    pub fn node_start(&self, node: NodeNo) -> usize
-        requires { node.0 < all_nodes self.now }
-        ensures { result ≡ node_start node }
+    pub fn node_start(&self, size: usize, node: NodeNo) -> usize
+        requires size { size ≡ node_size self.now.mode }
+        requires there { node.0 < all_nodes self.now }
+        ensures start { result ≡ node_start self.now node }
+        ensures fits { result < 4294967296 }
     {
-        18 * node.0 as usize
+        let _words = self.node_words;
+        size * node.0 as usize
     }
 
     /// Where the words of an SCX-record begin in the table.
@@ -146,17 +184,20 @@ impl Layout {
         requires { scx.0 < all_scx self.now }
         ensures { result ≡ scx_start self.now scx }
     {
+        let _words = self.words;
         self.node_words as usize + 14 * scx.0 as usize
     }
 
-    /// Where the words of the node or of the SCX-record begin that has this word.
+    /// Where the words of the node or of the SCX-record begin that has this word, if a node has so
+    /// many.
     #[inline(always)]
-    pub fn start_of(&self, word: Word) -> usize
-        requires { IsWord self.now word }
+    pub fn start_of(&self, size: usize, word: Word) -> usize
+        requires size { size ≡ node_size self.now.mode }
+        requires there { IsWord self.now word }
         ensures { result ≡ start_of self.now word }
     {
         match word {
-            Word::Node(node, _) => self.node_start(node),
+            Word::Node(node, _) => self.node_start(size, node),
             Word::Scx(scx, _) => self.scx_start(scx),
         }
     }
@@ -185,7 +226,21 @@ impl Layout {
         ensures inside { result < table_size self.now }
         ensures apart { (other : Word) → IsWord self.now other → place self.now other ≡ result → other ≡ word }
     {
-        self.place_from(self.start_of(word), word)
+        let size = self.mode.node_size();
+        self.place_from(self.start_of(size, word), word)
+    }
+}
+
+/// How many words so many nodes have in a table of this mode.
+fn words_of(mode: Mode, nodes: u32) -> u32
+    requires { nodes ≤ 68157449 }
+    ensures words { result ≡ node_size mode * nodes }
+    ensures many { 18 * nodes ≤ result }
+    ensures few { result ≤ 24 * nodes }
+{
+    match mode {
+        Mode::Trie => 24 * nodes,
+        Mode::Tree | Mode::Records => 18 * nodes,
     }
 }
 

@@ -1,5 +1,5 @@
 //! How large a table may be.
-ghost use Rattle.std.specs.Prelude.{◌≡◌, ◌↔◌, IsOk, IfOk};
+ghost use Rattle.std.specs.Prelude.{◌≡◌, ◌≤◌, ◌↔◌, IsOk, IfOk};
 
 use crate::fault::BadLimits;
 use crate::layout::Layout;
@@ -17,7 +17,7 @@ pub enum Mode {
 }
 
 impl Mode {
-    ghost use Rattle.arena.specs.Opening.{is_map};
+    ghost use Rattle.arena.specs.Opening.{is_map, node_size};
 
     /// Whether this is a dictionary's mode.
     pub fn is_map(self) -> bool
@@ -28,13 +28,27 @@ impl Mode {
             Mode::Records => false,
         }
     }
+
+    /// How many words a node has in a table of this mode: its own 18, and in a trie 6 more, so that
+    /// the words by which a walk passes it are in one line of the cache.
+    #[inline(always)]
+    pub fn node_size(self) -> usize
+        ensures size { result ≡ node_size self }
+        ensures least { 18 ≤ result }
+        ensures most { result ≤ 24 }
+    {
+        match self {
+            Mode::Trie => 24,
+            Mode::Tree | Mode::Records => 18,
+        }
+    }
 }
 
 /// How many passes there are, how many nodes and SCX-records each of them owns, and how often a
 /// dictionary call tries. Nodes and SCX-records are never given back: a try of an insert takes up
 /// to three nodes if its key is new, any other try of an edit at most one, and each one SCX-record.
 /// With `passes` of `nodes` and `scx` a forest's table takes `8 * (18 * (3 + passes * nodes) + 14 *
-/// (1 + passes * scx))` bytes; of cells it has 9 nodes where this has 3.
+/// (1 + passes * scx))` bytes; a trie has 24 for 18, and cells have 9 nodes where this has 3.
 ///
 ///     Limits { passes: 4, nodes: 3000, scx: 1000, tries: 100 }
 ///
@@ -69,6 +83,7 @@ impl Limits {
     pub fn check(self, mode: Mode) -> Result<Layout, BadLimits>
         ensures accepted { IsOk result ↔ IsAccepted self }
         ensures layout { IfOk result (IsLayoutOf self mode) }
+        ensures shares { IfOk result (λ lay. (lay.nodes ≤ 32768) × (lay.scx ≤ 32768)) }
     {
         let passes = 1 <= self.passes && self.passes <= Limits::MOST_PASSES;
         let shares = self.nodes <= Limits::MOST_RECORDS && self.scx <= Limits::MOST_RECORDS;

@@ -3,6 +3,7 @@ ghost use Rattle.std.specs.Prelude.{◌≡◌, ◌≢◌, ℕ, ◌<◌, ◌≤�
 ghost use Rattle.arena.specs.declared.layout.Layout.{Layout};
 ghost use Rattle.arena.specs.declared.limits.Mode.{Mode};
 ghost use Rattle.arena.specs.History.{History, Opened, value, ◌⊳◌};
+ghost use Rattle.arena.specs.Opening.{node_size};
 ghost use Rattle.arena.specs.Openings.{Opening};
 ghost use Rattle.arena.specs.declared.step.Row.{Row};
 ghost use Rattle.arena.specs.declared.step.Step.{Step};
@@ -50,6 +51,10 @@ pub trait Shape {
 
     /// Every row of such a run keeps it true.
     ghost stays: { (lay : Layout) (h : History) (r : Row) → IsRun allows lay (r ⊳ h) → holds lay h → holds lay (r ⊳ h) };
+
+    /// How many words a node has in its tables.
+    fn node_size() -> usize
+        ensures { result ≡ node_size mode };
 }
 
 /// A call that asks for one atomic step at a time, and gets what each found.

@@ -11,9 +11,9 @@ use std::marker::Model;
 /// given back.
 #[derive(Debug, Drop)]
 pub struct Share {
-    next_node: u32,
+    next_node: u64,
     nodes: u32,
-    next_scx: u32,
+    next_scx: u64,
     scx: u32,
 }
 
@@ -22,7 +22,7 @@ impl Model for Share {
 
     ghost view = { λ s. record { next_node = s.next_node; nodes = s.nodes; next_scx = s.next_scx; scx = s.scx } };
 
-    ghost invariant = { λ s. (s.next_node + s.nodes < 2 ^ 32) × (s.next_scx + s.scx < 2 ^ 32) };
+    ghost invariant = { λ s. (s.next_node + s.nodes < 2 ^ 64) × (s.next_scx + s.scx < 2 ^ 64) };
 }
 
 /// A node that a share has given, with no use yet. One SCX spends it.
@@ -55,9 +55,9 @@ impl Share {
         ensures apart_scx { (other s : ℕ) → other ≢ pass.0 → HasScx result s → HasScx (whole_share layout.now other) s → ⊥ }
     {
         Share {
-            next_node: layout.first_node(pass),
+            next_node: u64::from(layout.first_node(pass)),
             nodes: layout.nodes,
-            next_scx: layout.first_scx(pass),
+            next_scx: u64::from(layout.first_scx(pass)),
             scx: layout.scx,
         }
     }
@@ -71,7 +71,7 @@ impl Share {
         if self.nodes == 0 {
             return None;
         }
-        let node = NodeNo(u64::from(self.next_node));
+        let node = NodeNo(self.next_node);
         self.next_node += 1;
         self.nodes -= 1;
         Some(Fresh { node })
@@ -86,7 +86,7 @@ impl Share {
         if self.scx == 0 {
             return None;
         }
-        let scx = ScxNo(u64::from(self.next_scx));
+        let scx = ScxNo(self.next_scx);
         self.next_scx += 1;
         self.scx -= 1;
         Some(scx)

@@ -15,18 +15,18 @@ enum class Work { llx, own, two, shared };
 
 // `look` and `put` are calls in `bench` too: inlined into the loop they would be measured as something
 // that no caller with other code around it has.
-[[gnu::noinline]] inline LlxEnd look(const Forest& forest, Word cell, Snap& snap) {
-    const Table table = forest.table();
+[[gnu::noinline]] inline LlxEnd look(const Forest<NODE_WORDS>& forest, Word cell, Snap& snap) {
+    const Table<NODE_WORDS> table = forest.table();
     return table.llx(table.node(cell), snap);
 }
 
 // Puts a fresh node with this value into the left field of the first of the nodes. There is no answer where
 // the share is used up.
 template <std::size_t COUNT>
-[[gnu::noinline]] std::optional<bool> put(const Forest& forest, Pass& pass, const std::array<Snap, COUNT>& snaps,
+[[gnu::noinline]] std::optional<bool> put(const Forest<NODE_WORDS>& forest, Pass& pass, const std::array<Snap, COUNT>& snaps,
                                           Word value) {
     if (pass.nodes == 0 || pass.scx == 0) return std::nullopt;
-    const Table table = forest.table();
+    const Table<NODE_WORDS> table = forest.table();
     const Word call = pass.taken();
     const Word fresh = pass.fresh();
     const Word record = pass.record();
@@ -53,19 +53,19 @@ inline void count(Tally& tally, std::optional<bool> done) {
 }
 
 // The fields are read, so that no compiler leaves out what gives them.
-inline void look_at(const Forest& forest, Word cell, Tally& tally) {
+inline void look_at(const Forest<NODE_WORDS>& forest, Word cell, Tally& tally) {
     Snap snap;
     if (look(forest, cell, snap) == LlxEnd::snapshot && snap.left == snap.right) tally.done++;
     else tally.fail++;
 }
 
-inline void put_in(const Forest& forest, Pass& pass, Word cell, Tally& tally) {
+inline void put_in(const Forest<NODE_WORDS>& forest, Pass& pass, Word cell, Tally& tally) {
     std::array<Snap, 1> snaps;
     if (look(forest, cell, snaps[0]) == LlxEnd::snapshot) count(tally, put(forest, pass, snaps, 1));
     else tally.fail++;
 }
 
-inline void put_in_first(const Forest& forest, Pass& pass, Pair pair, Tally& tally) {
+inline void put_in_first(const Forest<NODE_WORDS>& forest, Pass& pass, Pair pair, Tally& tally) {
     std::array<Snap, 2> snaps;
     const LlxEnd first = look(forest, pair.first, snaps[0]);
     const LlxEnd second = look(forest, pair.second, snaps[1]);
@@ -73,7 +73,7 @@ inline void put_in_first(const Forest& forest, Pass& pass, Pair pair, Tally& tal
     else tally.fail++;
 }
 
-inline Tally rounds(const Forest& forest, Work work, Word calls, Word thread) {
+inline Tally rounds(const Forest<NODE_WORDS>& forest, Work work, Word calls, Word thread) {
     Pass pass = forest.pass(thread);
     const Pair pair(work, thread);
     Tally tally;

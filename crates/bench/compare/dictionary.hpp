@@ -72,11 +72,15 @@ struct Reply {
 // What parts the keys below forks: in a tree the order in which they came, in a trie their bits.
 enum class Parting { order, bits };
 
+// How many words a node takes: in a trie three lines of the cache.
+constexpr Word node_size(Parting parting) { return parting == Parting::bits ? 24 : Word(NODE_WORDS); }
+
 // The nodes from node 3 on of a map that begins with pairs: each behind what stands below it, and as the last
 // a fork above all keys.
 template <Parting PARTING>
 struct Planting {
     static constexpr bool BY_BITS = PARTING == Parting::bits;
+    using Table = ::Table<node_size(PARTING)>;
 
     const Pair* first;
     const Pair* last;
@@ -147,6 +151,7 @@ template <Parting PARTING>
 class Dictionary {
 public:
     static constexpr Word OPENING = 3;
+    static constexpr Word NODE_SIZE = node_size(PARTING);
 
     // As many pairs as a range has room for from the start.
     using RangeRoom = Room<Pair, 64>;
@@ -215,6 +220,8 @@ public:
     }
 
 private:
+    using Table = ::Table<NODE_SIZE>;
+
     static constexpr bool BY_BITS = PARTING == Parting::bits;
 
     explicit Dictionary(const Planting<PARTING>& planting)
@@ -418,7 +425,7 @@ private:
         if (!look(table, found.parent, found.side, found.leaf.number, parent)) return false;
         if (!look(table, found.leaf, leaf)) return false;
         const Word fresh = grown(table, pass, found, {key, value});
-        return table.put<0b10>(pass.record(), snaps, found.side, fresh, found.leaf.number, call);
+        return table.template put<0b10>(pass.record(), snaps, found.side, fresh, found.leaf.number, call);
     }
 
     // Puts a fork that the key shares above the one at which the walk has ended. False where the try is lost.
@@ -429,7 +436,7 @@ private:
         if (!look(table, found.parent, found.side, found.leaf.number, parent)) return false;
         if (!look(table, table.node(ORDER), order)) return false;
         const Word fresh = fork_above(table, pass, found, {key, value});
-        return table.put<0>(pass.record(), snaps, found.side, fresh, found.leaf.number, call);
+        return table.template put<0>(pass.record(), snaps, found.side, fresh, found.leaf.number, call);
     }
 
     // Takes the key out of its leaf, or the leaf out of the tree that has this key alone. False where the try
@@ -441,7 +448,7 @@ private:
         if (!look(table, found.parent, found.side, found.leaf.number, parent)) return false;
         if (!look(table, found.leaf, leaf)) return false;
         const Word fresh = shrunk(table, pass, found);
-        return table.put<0b10>(pass.record(), snaps, found.side, fresh, found.leaf.number, call);
+        return table.template put<0b10>(pass.record(), snaps, found.side, fresh, found.leaf.number, call);
     }
 
     // Puts a copy of the leaf's sibling in the place of their parent. False where the try is lost.
@@ -453,7 +460,7 @@ private:
         if (!look(table, table.node(parent.left), left)) return false;
         if (!look(table, table.node(parent.right), right)) return false;
         const Word fresh = copy(table, pass, found.side == LEFT_SIDE ? right : left);
-        return table.put<0b1110>(pass.record(), snaps, found.grand_side, fresh, found.parent, call);
+        return table.template put<0b1110>(pass.record(), snaps, found.grand_side, fresh, found.parent, call);
     }
 
     // Takes the first or the last pair out, which in a trie covers the node of the order too, as the last.
@@ -468,7 +475,7 @@ private:
         if (!look(table, found.parent, found.side, found.leaf.number, parent)) return false;
         if (!look(table, found.leaf, leaf)) return false;
         const Word fresh = shrunk(table, pass, found);
-        return table.put<0b010>(pass.record(), snaps, found.side, fresh, found.leaf.number, call);
+        return table.template put<0b010>(pass.record(), snaps, found.side, fresh, found.leaf.number, call);
     }
 
     // The same by a copy of the leaf's sibling, in whose stead the leaf is not covered.
@@ -482,7 +489,7 @@ private:
         const Word beside = found.side == LEFT_SIDE ? parent.right : parent.left;
         if (!look(table, table.node(beside), sibling)) return false;
         const Word fresh = copy(table, pass, sibling);
-        return table.put<0b0110>(pass.record(), snaps, found.grand_side, fresh, found.parent, call);
+        return table.template put<0b0110>(pass.record(), snaps, found.grand_side, fresh, found.parent, call);
     }
 
     // A leaf above all keys.
@@ -767,7 +774,7 @@ private:
         }
     }
 
-    Forest forest_;
+    Forest<NODE_SIZE> forest_;
     Word tries_;
 };
 

@@ -98,13 +98,14 @@ inline Word compare_exchange(Shared& word, Word expected, Word value) {
     return expected;
 }
 
-// Where the words are. Each call has a copy of its own: what others could reach would have to be loaded
-// again behind each step.
+// Where the words are, if a node takes so many. Each call has a copy of its own: what others could reach would
+// have to be loaded again behind each step.
+template <Word NODE_SIZE>
 struct Table {
     Shared* nodes;
     Shared* records;
 
-    Node node(Word number) const { return {number, nodes + NODE_WORDS * number}; }
+    Node node(Word number) const { return {number, nodes + NODE_SIZE * number}; }
     Shared* scx(Word number) const { return records + SCX_WORDS * number; }
 
     // Fills `snap` where it answers that there is one.
@@ -200,11 +201,12 @@ private:
     }
 };
 
+template <Word NODE_SIZE>
 class Forest {
 public:
     // Nodes 0 to `opening` - 1 are there from the start, beside the shares of the passes.
     Forest(Word opening, Word passes, Word share = SHARE) : first_node_(opening) {
-        const Word nodes = NODE_WORDS * (opening + passes * share);
+        const Word nodes = NODE_SIZE * (opening + passes * share);
         const Word size = nodes + SCX_WORDS * (FIRST_SCX + passes * share);
         words_.reset(new Shared[size]);
         for (Word at = 0; at < size; at++) words_[at].store(0, std::memory_order_relaxed);
@@ -212,7 +214,7 @@ public:
         table_.scx(0)[STATE].store(ABORTED);
     }
 
-    const Table& table() const { return table_; }
+    const Table<NODE_SIZE>& table() const { return table_; }
 
     Pass pass(Word number) const {
         return {number, first_node_ + number * SHARE, SHARE, FIRST_SCX + number * SHARE, SHARE};
@@ -221,5 +223,5 @@ public:
 private:
     Word first_node_;
     std::unique_ptr<Shared[]> words_;
-    Table table_;
+    Table<NODE_SIZE> table_;
 };

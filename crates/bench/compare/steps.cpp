@@ -38,15 +38,17 @@ private:
 
 namespace {
 
-constexpr Word FIRST_SCX_WORD = NODE_WORDS * (Tree::OPENING + SHARE);
+// How many words a node takes in the map whose steps are told.
+Word node_size_told = 0;
 
 std::string name(Word at) {
+    const Word first_scx_word = node_size_told * (Tree::OPENING + SHARE);
     constexpr const char* of_node[] = {"head", "key", "value", "left", "right", "info", "marked", "more", "key1",
                                        "value1", "key2", "value2", "key3", "value3", "high", "high1", "high2", "high3"};
     constexpr const char* of_scx[] = {"state", "allfrozen", "plan", "new", "old", "v0",
                                       "v1", "v2", "v3", "i0", "i1", "i2", "i3", "call"};
-    if (at < FIRST_SCX_WORD) return "n" + std::to_string(at / NODE_WORDS) + "." + of_node[at % NODE_WORDS];
-    at -= FIRST_SCX_WORD;
+    if (at < first_scx_word) return "n" + std::to_string(at / node_size_told) + "." + of_node[at % node_size_told];
+    at -= first_scx_word;
     return "s" + std::to_string(at / SCX_WORDS) + "." + of_scx[at % SCX_WORDS];
 }
 
@@ -84,6 +86,7 @@ template <class Map>
 void make_all() {
     const Map map(1, 1000);
     Pass pass = map.pass(0);
+    node_size_told = Map::NODE_SIZE;
     ToldWord::tells = true;
     char row[256];
     while (std::fgets(row, sizeof row, stdin)) {

@@ -147,7 +147,7 @@ Repetition run_on_map(const maps::Task& task) {
 }
 
 Repetition run_on_cells(const Task& task) {
-    const Forest forest(cells::OPENING, task.threads);
+    const Forest<NODE_WORDS> forest(cells::OPENING, task.threads);
     const auto work = static_cast<cells::Work>(task.row.work);
     return timed(task.threads, [&](Word thread) { return cells::rounds(forest, work, task.calls, thread); });
 }

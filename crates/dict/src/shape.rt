@@ -8,7 +8,7 @@ use crate::key::WordKey;
 use crate::value::WordValue;
 use arena::Shape;
 use std::marker::PhantomData;
-use template::{ByBits, ByOrder, FixedBalance};
+use template::{ByBits, ByOrder, FixedBalance, map_mode};
 
 /// The shape of a dictionary with keys `K` and values `V`: `Forest<Dict<Name8, u32>>` is one from
 /// names to numbers. Each SCX-record that begins makes an edit of the words of such a key, and of
@@ -29,4 +29,9 @@ impl<K: WordKey, V: WordValue, B: FixedBalance> Shape for Dict<K, V, B> {
     ghost opens = { typed_opens (IsWordOf K.is_valid K.word_of) (IsWordOf V.is_valid V.word_of) };
 
     ghost stays = { typed_stays (IsWordOf K.is_valid K.word_of) (IsWordOf V.is_valid V.word_of) };
+
+    #[inline(always)]
+    fn node_size() -> usize {
+        map_mode(B::the().in_trie()).node_size()
+    }
 }

@@ -1,6 +1,6 @@
 -- What an update's SCX is to do, and what the update waits for as that begins.
 use Rattle.std.proofs.Common.{◌≡◌, ℕ, suc, ◌+◌, ◌-◌, ◌<◌, Bool, true, false, List, length, None, sym, ◌∙◌, ap, subst, arith}
-use Rattle.histories.specs.Common.{Turn, Ask, ScxNo, Step, IsOwnNode, IsOwnScx, IsNamedScx, History, Call, MatchTurn, begun_at, Remaining, HasScx, Descriptor}
+use Rattle.histories.specs.Common.{Turn, Ask, ScxNo, Step, IsOwnNode, IsOwnScx, IsTakenNode, IsNamedScx, History, Call, MatchTurn, begun_at, Remaining, HasScx, Descriptor}
 use Rattle.template.specs.Common.{FoundBy, Job, job_of, Says, IsUpdateOver, ScxIsReady, ScxWaits, IsShare, snap_at, Scx as ScxAnswer, ScxRun, Snap, Update, TreeAllows, IsPromised, Tracks}
 use Rattle.prims.specs.Scx.Known.{ScxAnswers}
 use Rattle.prims.specs.declared.scx.ScxAt.TheVariants.{Start as ScxStart}
@@ -125,6 +125,7 @@ module _ {E : Type 0} (e : EditMeaning E) {A : Type 0} (m now : UpdateRun E A) (
       own = subst (λ n. IsOwnNode c.layout c.pass n) (sym fresh_is) (x.full.hand.own (top m) x.full.some (omega arith));
       own_scx = subst (λ s. IsOwnScx c.layout c.pass s) (sym scx_is) (left_own_scx c.layout h c.pass m.share m.nodes.first.0 m.share.next_scx m.share.next_scx x.full.share here);
       over = over_begins c.layout c.pass after.scx.0 h x.full.over;
+      untaken = subst (λ n. ¬ IsTakenNode c.start n) (sym fresh_is) x.untaken;
       tracks = subst (λ (j : Job). Tracks c.layout c.pass h j (e.edit m.edit f)) (λ i. record { scx = sym same_scx i; call = sym same_call i; update = sym same_update i }) tracked;
     },
     rw asked at w,

@@ -1,6 +1,6 @@
 -- What an update waits for after the fill of a word: the next word, the next node, or its SCX.
 use Rattle.std.proofs.Common.{◌≡◌, ℕ, suc, ◌<◌, ◌≤◌, ◌⊎◌, inl, inr, Some, None, true, sym, subst, arith}
-use Rattle.histories.specs.Common.{Side, NodeWord, Settled, Child, Info, Marked, IsInField, History, Call}
+use Rattle.histories.specs.Common.{Side, NodeWord, Settled, Child, Info, Marked, IsInField, IsTakenNode, History, Call}
 use Rattle.template.specs.declared.walk.Found.{Found}
 use Rattle.edits.specs.declared.edit.Nodes.{Nodes}
 use Rattle.edits.specs.declared.edit.Nth.{Nth}
@@ -97,6 +97,7 @@ module _ {E : Type 0} (e : EditMeaning E) {A : Type 0} (m : UpdateRun E A) (c : 
     asked = x.0.works.asked;
     need = let n = x.0.works.need in omega (arith, n);
     some = x.0.works.some;
+    untaken = subst (λ n. ¬ IsTakenNode c.start n) (last_node m.nodes m.work.need nth x.0.works.need x.0.works.in_order last) (x.0.works.untaken nth x.0.works.need);
     all = record {
       looked = x.0.works.looked;
       enough = x.0.works.enough;

@@ -1,5 +1,6 @@
 -- The places of an edit's fresh nodes: their numbers, which comes next, and which is the last.
-use Rattle.std.proofs.Common.{◌≡◌, ℕ, suc, ◌+◌, ◌-◌, ◌<◌, ◌≤◌, Bool, true, false, if◌then◌else◌, Some, None, refl, subst, arith, min, nat_lt, eq-eqb, ltb-false, ltb-true, ne_eqb}
+use Rattle.std.proofs.Common.{◌≡◌, ℕ, suc, ◌+◌, ◌-◌, ◌<◌, ◌≤◌, Bool, true, false, if◌then◌else◌, Some, None, refl, sym, subst, arith, min, nat_lt, eq-eqb, ltb-false, ltb-true, ne_eqb}
+use native.Mathlib.Decide.{ℕ_discrete}
 use Rattle.edits.specs.declared.edit.Nodes.{Nodes}
 use Rattle.edits.specs.declared.edit.Nth.{Nth}
 use Rattle.edits.specs.declared.edit.Nth.TheVariants.{First, Second, Third}
@@ -30,6 +31,17 @@ top_is need ns o = go (nat_lt 2 need) (nat_lt 1 need) refl refl
     go true b three two = let l = ltb-true 2 need three in let d = o Third l in omega (arith, d, l)
     go false true three two = let l = ltb-true 1 need two in let n = ltb-false 2 need three in let d = o Second l in omega (arith, d, l, n)
     go false false three two = let n = ltb-false 1 need two in omega (arith, n)
+
+-- what is in hand below the last is a needed node
+pub hand_is : (need : ℕ) (ns : Nodes) (v : ℕ) → StandInRow need ns → ns.first.0 ≤ v → v < top_of need ns → (nth : Nth) × IsNeeded need nth × ((nth_node ns nth).0 ≡ v)
+hand_is need ns v o from below = go (ℕ_discrete v ns.first.0)
+  where
+    t : top_of need ns ≡ ns.first.0 + (min need 3 - 1)
+    t = top_is need ns o
+
+    go : Dec (v ≡ ns.first.0) → (nth : Nth) × IsNeeded need nth × ((nth_node ns nth).0 ≡ v)
+    go (yes e) = (First, omega (arith, t, from, below), sym e)
+    go (no d) = let two : 1 < need = omega (arith, t, from, below, d) in let a = o Second two in (Second, two, omega (arith, a, t, from, below, d))
 
 module _ (ns : Nodes) (need : ℕ) (nth : Nth) (n : IsNeeded need nth) (o : StandInRow need ns) where
   -- a needed node is one of those in hand

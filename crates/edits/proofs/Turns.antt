@@ -1,7 +1,7 @@
 -- What an update waits for after each of its turns.
 use Rattle.std.proofs.Common.{◌≡◌, ◌≢◌, ℕ, suc, ◌-◌, ◌<◌, ◌⊎◌, true, false, inr, refl, ⊎_elim, sym, ◌∙◌, ap, subst, arith}
 use Rattle.histories.specs.Common.{Turn, Ask, Done, NodeNo, ScxNo, Step, Store, Fill as FillKind, LoadMarked, LoadSettled, NodeWord, Settled, Head as HeadWord, Node as NodeOf}
-use Rattle.histories.specs.Common.{History, ◌⊳◌, value, Extends, IsNamedScx, IsOwnNode, IsOwnScx, Lawful, Call, IsRun, MatchTurn, begun_at, Remaining, marked, node, state}
+use Rattle.histories.specs.Common.{History, ◌⊳◌, value, Extends, IsNamedScx, IsOwnNode, IsOwnScx, IsTakenNode, Lawful, Call, IsRun, MatchTurn, begun_at, Remaining, marked, node, state}
 use Rattle.arena.proofs.Lemmas.{ends_self, ends_trans}
 use Rattle.histories.proofs.Lemmas.{finished_taken}
 use Rattle.prims.specs.Laws.FoundThere.{there_wider}
@@ -240,6 +240,7 @@ module _ {E : Type 0} (e : EditMeaning E) where
       own_scx = subst (λ (s : ScxNo). IsOwnScx c.layout c.pass s.0) (sym is_scx) x.own_scx;
       own = subst (λ (u : Update). IsOwnNode c.layout c.pass u.fresh.0) (sym is_update) x.own;
       over = subst (λ (s : ScxNo). AreFinished c.layout c.pass s.0 h) (sym is_scx) x.over;
+      untaken = subst (λ (u : Update). ¬ IsTakenNode c.start u.fresh.0) (sym is_update) x.untaken;
       tracks = subst (λ (j : Job). Tracks c.layout c.pass h j (e.edit m.edit f)) (λ i. record { scx = sym is_scx i; call = sym is_call i; update = sym is_update i }) x.tracks;
     },
     rw asked at w,

@@ -343,6 +343,8 @@ module _ (e : EditMeaning (Unit {0})) where
       pub own : IsOwnNode c.layout c.pass scx.update.fresh.0
       pub own_scx : IsOwnScx c.layout c.pass scx.scx.0
       pub over : AreFinished c.layout c.pass scx.scx.0 h
+      -- what it puts in was not taken as the call began
+      pub untaken : ¬ IsTakenNode c.start scx.update.fresh.0
       -- it makes the edit, if it makes any, and no other of the pass has won since the try began
       pub tracks : Tracks c.layout c.pass h (job_of scx) (e.edit tt f)
       pub only : HasEnteredOnly c.layout c.pass scx.scx.0 h c.start
@@ -573,6 +575,7 @@ module _ {E : Type 0} (e : EditMeaning E) where
     pub asked : m.work ≡ e.work m.edit f
     pub need : 0 < m.work.need
     pub some : 0 < m.share.scx
+    pub untaken : ¬ IsTakenNode c.start (top m)
     pub all : HasFilledAll c h m.edit f m.snaps.items m.nodes m.read
     pub guarded : Guarded e m.edit c h m.guard (λ k. FoundBy (e.way m.edit) (e.goal m.edit) k h f)
     pub full : HasFilledTo c.layout h c.pass m.share m.nodes.first.0 (top m) (suc (top m)) (piece e m f)

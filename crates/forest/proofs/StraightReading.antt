@@ -1,5 +1,5 @@
 -- How ordered reads continue from seat to seat, of whatever machine reads.
-use Rattle.std.proofs.Common.{◌≡◌, ℕ, ◌∙◌, refl, sym, subst, arith, Result, Ok, Err}
+use Rattle.std.proofs.Common.{◌≡◌, ℕ, ◌∙◌, refl, sym, subst, arith, Result, Ok}
 use Rattle.atomic_table.specs.declared.shared.Seat.{Seat}
 use Rattle.arena.specs.declared.machine.Machine.{Ghosts as Machine}
 use Rattle.arena.specs.declared.machine.Shape.{Ghosts as Shape}
@@ -9,19 +9,20 @@ use Rattle.order.specs.declared.refused.Refused.{Refused}
 use Rattle.order.specs.declared.run.ReadRun.{ReadRun}
 use Rattle.forest.specs.declared.straight.hand.Hand.{Hand}
 use Rattle.forest.specs.declared.view.SeatView.{SeatView}
-use Rattle.forest.specs.StraightReads.{ReadEnds, ReadGoesOn}
+use Rattle.forest.specs.declared.straight.ordered_read.ReadStop.{ReadStop}
+use Rattle.forest.specs.StraightReads.{ReadEnds, ReadEndsFrom, ReadGoesOn}
 
 module _ {S T M R A B : Type 0} {s : Shape T} {m : Machine M T B} {means : ReadMeaning R A} {hand : Hand S} {old : Seat ℕ SeatView} {run : ReadRun R} where
   -- if the same comes next, it continues so
   pub reads_as : {next now : ReadNext} → next ≡ now → ReadGoesOn s m means hand 0 old run (Ok next) old run (Ok now)
   reads_as {next} {now} is = subst (λ (k : ReadNext). ReadGoesOn s m means hand 0 old run (Ok next) old run (Ok k)) is record { table = (refl, refl); to = λ r x. x; nearer = omega arith; steps = omega arith }
 
-  module _ {new : Seat ℕ SeatView} {now : ReadRun R} {behind : Result ReadNext (Result A Refused)} where
+  module _ {new : Seat ℕ SeatView} {now : ReadRun R} {behind : Result ReadNext ReadStop} where
     -- it continues from what is the same
     pub reads_from : {fewer : ℕ} {next same : ReadNext} → next ≡ same → ReadGoesOn s m means hand fewer old run (Ok same) new now behind → ReadGoesOn s m means hand fewer old run (Ok next) new now behind
     reads_from {fewer} is x = subst (λ (k : ReadNext). ReadGoesOn s m means hand fewer old run (Ok k) new now behind) (sym is) x
 
-    module _ {next end : Result ReadNext (Result A Refused)} {third : Seat ℕ SeatView} {last : ReadRun R} {fewer less : ℕ} where
+    module _ {next end : Result ReadNext ReadStop} {third : Seat ℕ SeatView} {last : ReadRun R} {fewer less : ℕ} where
       -- it continues twice, and has fewer steps left, by as many as at first, or then
       pub reads_on : ReadGoesOn s m means hand fewer old run next new now behind → ReadGoesOn s m means hand less new now behind third last end → ReadGoesOn s m means hand fewer old run next third last end
       reads_on a b = record {
@@ -40,13 +41,6 @@ module _ {S T M R A B : Type 0} {s : Shape T} {m : Machine M T B} {means : ReadM
       }
 
   module _ {next : ReadNext} {new : Seat ℕ SeatView} {now : ReadRun R} {answer : Result A Refused} where
-    -- it ends, and has continued so
-    pub reads_last : ReadEnds s m means hand old run next new now answer → ReadGoesOn s m means hand 1 old run (Ok next) new now (Err answer)
-    reads_last a = record { table = a.table; to = a.to; nearer = omega arith; steps = (let p = a.steps in omega (arith, p)) }
-
-    pub reads_stop : {fewer : ℕ} → ReadGoesOn s m means hand fewer old run (Ok next) new now (Err answer) → ReadEnds s m means hand old run next new now answer
-    reads_stop a = record { table = a.table; to = a.to; steps = (let p = a.steps in omega (arith, p)) }
-
     -- it continues, and ends
-    pub reads_end : {fewer : ℕ} {between : ReadNext} {second : Seat ℕ SeatView} {middle : ReadRun R} → ReadGoesOn s m means hand fewer old run (Ok next) second middle (Ok between) → ReadEnds s m means hand second middle between new now answer → ReadEnds s m means hand old run next new now answer
+    pub reads_end : {fewer : ℕ} {between : Result ReadNext ReadStop} {second : Seat ℕ SeatView} {middle : ReadRun R} → ReadGoesOn s m means hand fewer old run (Ok next) second middle between → ReadEndsFrom s m means hand second middle between new now answer → ReadEnds s m means hand old run next new now answer
     reads_end a b = record { table = (b.table.0 ∙ a.table.0, b.table.1 ∙ a.table.1); to = λ r x. b.to r (a.to r x); steps = (let p = a.steps in let q = b.steps in omega (arith, p, q)) }

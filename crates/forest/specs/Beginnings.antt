@@ -33,7 +33,7 @@ pub record BeginsWithPairs (f : Ground) (ps : List Pair) : Type 0 where
   pub few : length f.planting.nodes ≤ 2 * length ps
   pub full : f.layout.mode ≡ Tree → length f.planting.nodes ≡ 2 * ((length ps + 3) / 4)
   pub balanced : f.layout.mode ≡ Tree → (opening_for f.planting).deep ≤ suc (fork_levels (length ps))
-  pub room : (length f.planting.nodes ≤ f.layout.planted) × (f.layout.planted < length f.planting.nodes + 32)
+  pub room : f.layout.planted ≡ length f.planting.nodes
 
 -- Why no forest begins with these pairs, where so many nodes are the passes' own: the keys do not
 -- rise; or the room beside those nodes is too small, in a tree for a node for each four pairs and
@@ -52,4 +52,4 @@ pub record IsPlotWith (lay : Layout) (ps : List Pair) (plot : Plot) : Type 0 whe
   pub scx : plot.layout.scx ≡ lay.scx
   pub same_mode : plot.planting.mode ≡ plot.layout.mode
   pub planting : IsPlantingOf lay.mode ps plot.planting
-  pub room : (length plot.planting.nodes ≤ plot.layout.planted) × (plot.layout.planted < length plot.planting.nodes + 32)
+  pub room : plot.layout.planted ≡ length plot.planting.nodes

@@ -17,6 +17,8 @@ use Rattle.order.specs.declared.refused.Refused.{Refused}
 use Rattle.order.specs.declared.run.ReadAt.TheVariants.{Look, Root}
 use Rattle.order.specs.declared.run.ReadRun.{ReadRun}
 use Rattle.forest.specs.declared.straight.hand.Hand.{Hand}
+use Rattle.forest.specs.declared.straight.ordered_read.ReadStop.{ReadStop}
+use Rattle.forest.specs.declared.straight.ordered_read.ReadStop.TheVariants.{Again, Refused as RefusedSo}
 use Rattle.forest.specs.declared.view.SeatView.{SeatView}
 use Rattle.forest.specs.declared.view.SeatedPass.{SeatedPass}
 use Rattle.forest.specs.CallKinds.{Calls}
@@ -64,24 +66,26 @@ module _ {M R A : Type 0} {o : Calls M} {means : ReadMeaning R A} (r : Reader o 
   abbrev pub ReaderEnds : ReadRun R → Result A Refused → Type 0
   ReaderEnds m a = HostedEnds r ps m a
 
-  -- its read is about to do this, or has answered
-  abbrev pub ReaderGoesOn : ReadRun R → Result ReadNext (Result A Refused) → Type 0
+  -- its read is about to do this, or asks again for a state, or has ended
+  abbrev pub ReaderGoesOn : ReadRun R → Result ReadNext ReadStop → Type 0
   ReaderGoesOn m (Ok next) = ReaderWaits m next
-  ReaderGoesOn m (Err a) = ReaderEnds m a
+  ReaderGoesOn m (Err (Again children level n marked scx)) = ReaderLooksAgain m children level n marked scx
+  ReaderGoesOn m (Err (RefusedSo refused)) = ReaderEnds m (Err refused)
 
 module _ {R A : Type 0} (means : ReadMeaning R A) where
-  -- how many steps are left to it then
-  abbrev pub left_then : ℕ → ReadRun R → Result ReadNext (Result A Refused) → ℕ
-  left_then nodes m (Ok next) = suc (read_left means (placed m next) (nodes_by m.trie nodes))
-  left_then nodes m (Err a) = 0
-
-  -- after the load of the root's head
+  -- how many steps are left to it after the load of the root's head
   abbrev pub root_left : ReadRun R → ℕ → ℕ
   root_left m nodes = read_left means (at_root m) (nodes_by m.trie nodes)
 
   -- where it asks again for that state
   abbrev pub again_left : ReadRun R → Children → ℕ → NodeNo → Bool → ScxNo → ℕ → ℕ
   again_left m children level n marked scx nodes = read_left means (looking_again m children level n marked scx) (nodes_by m.trie nodes)
+
+  -- as it goes on so
+  abbrev pub left_then : ℕ → ReadRun R → Result ReadNext ReadStop → ℕ
+  left_then nodes m (Ok next) = suc (read_left means (placed m next) (nodes_by m.trie nodes))
+  left_then nodes m (Err (Again children level n marked scx)) = suc (again_left m children level n marked scx nodes)
+  left_then nodes m (Err (RefusedSo refused)) = 0
 
 module _ {S T M R A B : Type 0} (s : Shape T) (m : Machine M T B) (means : ReadMeaning R A) (hand : Hand S) where
   -- in a call of the hand, a read has begun what comes next
@@ -91,12 +95,16 @@ module _ {S T M R A B : Type 0} (s : Shape T) (m : Machine M T B) (means : ReadM
   -- From the old seat, about to do `next`, a read gets to the new one, about to do `behind`: at the
   -- same table, in any call of the hand. The steps left drop by at least those made, and by at
   -- least `fewer`.
-  pub record ReadGoesOn (fewer : ℕ) (old : Seat ℕ SeatView) (run : ReadRun R) (next : Result ReadNext (Result A Refused)) (new : Seat ℕ SeatView) (now : ReadRun R) (behind : Result ReadNext (Result A Refused)) : Type 0 where
+  pub record ReadGoesOn (fewer : ℕ) (old : Seat ℕ SeatView) (run : ReadRun R) (next : Result ReadNext ReadStop) (new : Seat ℕ SeatView) (now : ReadRun R) (behind : Result ReadNext ReadStop) : Type 0 where
     pub table : StaysAtTable old new
     pub to : (r : Reader (hand_calls s m hand) means) → ReaderGoesOn r old.me.0.passes run next → ReaderGoesOn r new.me.0.passes now behind
     pub nearer : fewer + left_then means (shared_nodes hand.layout.now) now behind ≤ left_then means (shared_nodes hand.layout.now) run next
     pub steps : steps_made new + left_then means (shared_nodes hand.layout.now) now behind ≤ steps_made old + left_then means (shared_nodes hand.layout.now) run next
 
+  -- from this seat, with a read that goes on so, it ends at that one
+  abbrev pub ReadEndsFrom : Seat ℕ SeatView → ReadRun R → Result ReadNext ReadStop → Seat ℕ SeatView → ReadRun R → Result A Refused → Type 0
+  ReadEndsFrom old run next new now answer = Leads {K = Reader (hand_calls s m hand) means} old new (left_then means (shared_nodes hand.layout.now) run next) (λ r ps. ReaderGoesOn r ps run next) (λ r ps. ReaderEnds r ps now answer)
+
   -- from this seat, with a read about to do `next`, it ends at that one
   abbrev pub ReadEnds : Seat ℕ SeatView → ReadRun R → ReadNext → Seat ℕ SeatView → ReadRun R → Result A Refused → Type 0
-  ReadEnds old run next new now answer = Leads {K = Reader (hand_calls s m hand) means} old new (left_then means (shared_nodes hand.layout.now) run (Ok next)) (λ r ps. ReaderWaits r ps run next) (λ r ps. ReaderEnds r ps now answer)
+  ReadEnds old run next new now answer = ReadEndsFrom old run (Ok next) new now answer

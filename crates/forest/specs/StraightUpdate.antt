@@ -1,7 +1,7 @@
 -- Calls of updates, of whatever machine updates: at a place of it, or before it has begun.
 use Rattle.std.specs.Prelude.{◌≡◌, ℕ, suc, ◌+◌, ◌-◌, ◌*◌, ◌≤◌, List, [], Option, Some, None, Result, Ok, Err}
 use Rattle.arena.specs.Layout.{node_start}
-use Rattle.histories.specs.Common.{NodeWord, Ghosts as Machine, History, Remaining, ScxNo}
+use Rattle.histories.specs.Common.{Layout, NodeWord, Ghosts as Machine, History, Remaining, ScxNo}
 use Rattle.arena.specs.declared.machine.Shape.{Ghosts as Shape}
 use Rattle.atomic_table.specs.declared.shared.Seat.{Seat}
 use Rattle.template.specs.Common.{TreeAllows, HelpRun}
@@ -128,8 +128,8 @@ module _ {M E : Type 0} {o : Calls M} {e : EditMeaning E} (u : Updater o e) (ps 
   UpdaterLeaves a share = (m : UpdateRun E (Unit {0})) × (m.share ≡ share) × UpdaterEnds m a
 
 -- the words of the fresh node of this place begin there, and the piece is what the edit says of it
-abbrev pub IsFreshPiece : {E A : Type 0} → EditMeaning E → UpdateRun E A → Found → Nth → ℕ → Piece → Type 0
-IsFreshPiece e m f nth start p = (start ≡ node_start (nth_node m.nodes nth)) × (p ≡ pieces_now e m f nth)
+abbrev pub IsFreshPiece : {E A : Type 0} → Layout → EditMeaning E → UpdateRun E A → Found → Nth → ℕ → Piece → Type 0
+IsFreshPiece lay e m f nth start p = (start ≡ node_start lay (nth_node m.nodes nth)) × (p ≡ pieces_now e m f nth)
 
 -- how many steps are left to an update whose SCX could not freeze a node, if its HELP is there
 abbrev pub left_at_block : {E A : Type 0} → EditMeaning E → UpdateRun E A → HelpRun → ℕ → ℕ

@@ -15,7 +15,7 @@ ghost use Rattle.forest.specs.Beginnings.{BeginsWithPairs, HasLimits, IsPlotWith
 ghost use Rattle.forest.specs.Passes.{AreNew, PassView, IsClosed};
 ghost use Rattle.forest.specs.TableRule.{history_of};
 
-use crate::balance::{in_trie, mode};
+use crate::balance::in_trie;
 use crate::close::Closed;
 use crate::fault::PairsFault;
 use crate::forest::Forest;
@@ -24,12 +24,9 @@ use crate::rule::Plot;
 use arena::{Layout, Limits, NoMemory};
 use dict::{Dict, WordKey, WordValue, number_of};
 use ordered_map::Pair;
-use planting::{Planting, first_fall, with_room};
+use planting::{MOST_NODES, Planting, first_fall, with_room};
 use std::alloc::Global;
-use template::FixedBalance;
-
-/// The most nodes that a map has beside the three of an empty one.
-const MOST_NODES: u32 = 1048576;
+use template::{FixedBalance, map_mode};
 
 impl<K: WordKey, V: WordValue, B: FixedBalance> Forest<Dict<K, V, B>> {
     /// A dictionary that begins with these pairs, in rising order of keys, and a pass for each
@@ -53,7 +50,7 @@ impl<K: WordKey, V: WordValue, B: FixedBalance> Forest<Dict<K, V, B>> {
         ensures begins { IfOk result (λ r. BeginsWithPairs r.0 (map (word_pair K.word_of V.word_of) pairs.now)) }
         ensures passes { IfOk result (λ r. AreNew r.0 r.1.items) }
     {
-        let Ok(layout) = limits.check(mode::<B>()) else {
+        let Ok(layout) = limits.check(map_mode(in_trie::<B>())) else {
             return Err(PairsFault::Limits);
         };
         let plot = plot_with(alloc, in_trie::<B>(), &layout, pairs)?;
@@ -87,7 +84,7 @@ impl<K: WordKey, V: WordValue, B: FixedBalance> Closed<Dict<K, V, B>> {
         ensures passes { IfOk result (λ r. AreNew r.0 r.1.items) }
     {
         // First, so that the table is not read in vain.
-        let Ok(_layout) = limits.check(mode::<B>()) else {
+        let Ok(_layout) = limits.check(map_mode(in_trie::<B>())) else {
             return Err(PairsFault::Limits);
         };
         let pairs = self.pairs(alloc)?;
@@ -104,6 +101,7 @@ fn plot_with<K: WordKey, V: WordValue>(
 ) -> Result<Plot, PairsFault>
     requires mode { layout.now.mode ≡ map_mode trie }
     requires none { layout.now.planted ≡ 0 }
+    requires shares { (layout.now.nodes ≤ 32768) × (layout.now.scx ≤ 32768) }
     ensures plot { IfOk result (IsPlotWith layout.now (map (word_pair K.word_of V.word_of) pairs.now)) }
     ensures run { IfOk result (λ plot. IsRun (TypedAllows (IsWordOf K.is_valid K.word_of) (IsWordOf V.is_valid V.word_of))
         plot.layout (Opened (opening_for plot.planting))) }

@@ -14,18 +14,18 @@ ghost use Rattle.dict.specs.Words.{IsWordOf};
 ghost use Rattle.forest.specs.Dictionary.{HasCalledIn, order_reply, update_reply};
 ghost use Rattle.forest.specs.Passes.{IsOf, AreNew};
 
-use crate::balance::{in_trie, mode};
+use crate::balance::in_trie;
 use crate::fault::{NewFault, OrderFault, UpdateFault};
 use crate::forest::Forest;
 use crate::pass::Pass;
 use crate::straight::hand::Hand;
 use crate::straight::{calls, walk};
-use arena::{Limits, NoMemory, Share};
+use arena::{Limits, NoMemory, PassNo, Shape, Share};
 use dict::{Dict, DictRun, Reply, Request, WordKey, WordValue, number_of, value_of};
 use order::leaf_way;
 use std::alloc::Global;
 use std::mem::replace;
-use template::{FixedBalance, Goal};
+use template::{FixedBalance, Goal, map_mode};
 use tree::{
     AtGreatest, AtKey, AtLeast, EditGoal, EditRule, GoalIn, KeyEdit, PutNewRule, PutRule, SwapRule,
     TakeIfRule, TakeRule,
@@ -101,7 +101,7 @@ impl<K: WordKey, V: WordValue, B: FixedBalance> Forest<Dict<K, V, B>> {
         ensures empty { IfOk result (λ r. r.0.planting ≡ nothing_planted (map_mode (B.trie B.the))) }
         ensures passes { IfOk result (λ r. AreNew r.0 r.1.items) }
     {
-        let Ok(layout) = limits.check(mode::<B>()) else {
+        let Ok(layout) = limits.check(map_mode(in_trie::<B>())) else {
             return Err(NewFault::Limits);
         };
         match Forest::with_layout(alloc, layout, limits.tries) {
@@ -234,6 +234,7 @@ impl<K: WordKey, V: WordValue, B: FixedBalance> Forest<Dict<K, V, B>> {
             words: &self.words,
             layout: &self.layout,
             number,
+            size: Dict::<K, V, B>::node_size(),
         };
         let seat = &mut pass.seat;
         let way = leaf_way(in_trie::<B>());
@@ -338,11 +339,12 @@ impl<K: WordKey, V: WordValue, B: FixedBalance> Forest<Dict<K, V, B>> {
             rule: edit.rule,
         };
         let number = pass.taken();
-        let share = replace(&mut pass.share, Share::of(&self.layout, pass.number));
+        let share = replace(&mut pass.share, Share::of(&self.layout, PassNo(0)));
         let hand = Hand {
             words: &self.words,
             layout: &self.layout,
             number,
+            size: Dict::<K, V, B>::node_size(),
         };
         let seat = &mut pass.seat;
         let (told, share) = calls::make(hand, seat, share, self.tries, edit);
@@ -370,6 +372,7 @@ impl<K: WordKey, V: WordValue, B: FixedBalance> Forest<Dict<K, V, B>> {
             words: &self.words,
             layout: &self.layout,
             number,
+            size: Dict::<K, V, B>::node_size(),
         };
         let seat = &mut pass.seat;
         let reply = calls::read(hand, seat, alloc, self.tries, request);

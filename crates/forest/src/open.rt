@@ -137,6 +137,7 @@ impl<K: WordKey, V: WordValue, B: FixedBalance> OpenCall<K, V, B> {
             words: &forest.words,
             layout: &layout,
             number: self.call,
+            size: layout.mode.node_size(),
         };
         self.turn = advance::<Dict<K, V, B>, DictRun<K, V>, Dict<K, V, B>, DictRun<K, V>>(
             hand,

@@ -155,7 +155,7 @@ module _ (c : Contents) (h : History) (s : ℕ) (agrees : (j : ℕ) → j < 4 �
 
 -- A row
 
-scx_fit : (lay : Layout) → all_scx lay ≤ 1048577
+scx_fit : (lay : Layout) → all_scx lay ≤ 36028797018963969
 scx_fit lay = let most = mul-le-mul_left lay.passes lay.scx_fit in let few_passes = lay.passes_fit in omega (most, few_passes, arith)
 
 abbrev Agrees : Layout → Contents → History → Type 0

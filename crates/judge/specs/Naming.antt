@@ -47,8 +47,8 @@ pub record IsNaming (n : Naming) : Type 0 where
   pub graph : IsGraph n.graph
   pub size : length n.graph.reached.items ≡ 2 * n.nodes + n.scxs
   pub some_nodes : 0 < n.nodes
-  pub few_nodes : n.nodes ≤ 68157449
-  pub few_scxs : n.scxs ≤ 1048577
+  pub few_nodes : n.nodes ≤ 238609294
+  pub few_scxs : n.scxs ≤ 306783378
 
 -- the word is one of these nodes or SCX-records
 abbrev pub IsInside : Naming → Word → Type 0

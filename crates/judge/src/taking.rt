@@ -66,6 +66,8 @@ impl Taking {
             then self.old.all_nodes + 1
             else self.old.all_nodes) }
     {
+        // By it a clause knows that as many fit 32 bits.
+        let _most = layout.all_nodes();
         let at = pass.0 as usize;
         if node == u64::from(layout.first_node(pass)) + u64::from(self.nodes[at]) {
             self.nodes[at] += 1;
@@ -83,6 +85,7 @@ impl Taking {
             else self.old.scx.items) }
         ensures all { self.new.all_nodes ≡ self.old.all_nodes }
     {
+        let _most = layout.all_scx();
         let at = pass.0 as usize;
         if scx == u64::from(layout.first_scx(pass)) + u64::from(self.scx[at]) {
             self.scx[at] += 1;

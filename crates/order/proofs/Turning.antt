@@ -1,14 +1,14 @@
 -- Where a walk has last turned.
-use Rattle.std.proofs.Common.{◌≡◌, ℕ, ◌<◌, ◌≤◌, Bool, true, false, ◌⊎◌, inl, inr, ⊎_elim, refl, sym, ◌∙◌, ap, subst, arith}
+use Rattle.std.proofs.Common.{◌≡◌, ℕ, ◌<◌, Bool, true, false, ◌⊎◌, inl, inr, refl, sym, ◌∙◌, ap, subst, arith}
 use Rattle.arena.specs.declared.limits.Mode.TheVariants.{Trie as TrieMode}
 use Rattle.histories.specs.Common.{Tree as TreeMode, Side, node, first_key, History, value, Call}
 use Rattle.arena.specs.declared.word.Side.TheVariants as sides
-use Rattle.ordered_map.specs.Bits.{IsForkKey, IsInSpan, IsParted, Shares}
+use Rattle.ordered_map.specs.Bits.{IsForkKey, IsInSpan, IsParted}
 use Rattle.ordered_map.specs.TrieShape.{Stays}
 use Rattle.ordered_map.proofs.Lemmas.{shares_span}
 use Rattle.ordered_map.proofs.MapLemmas.{stood_parted, walked_stood}
 use Rattle.template.specs.Balance.{map_mode}
-use Rattle.template.specs.Common.{IsMapRun, WasPassed, class, is_leaf, level, path_key, WalkIsTold, WalkKnows, Key as ToKey}
+use Rattle.template.specs.Common.{IsMapRun, WasPassed, is_leaf, level, path_key, WalkIsTold, WalkKnows, Key as ToKey}
 use Rattle.template.specs.Walk.Known.{LoadsChild, here, walk_part}
 use Rattle.template.specs.declared.walk.WalkAt.{WalkAt}
 use Rattle.template.specs.declared.walk.WalkAt.TheVariants.{Start, Root, Head, Key, Child, More, Pair, Value, High}

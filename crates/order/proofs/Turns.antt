@@ -1,7 +1,6 @@
 -- What an ordered read waits for after each of its turns.
 use Rattle.std.proofs.Common.{◌≡◌, ℕ, ◌+◌, ◌-◌, ◌*◌, ◌<◌, Bool, true, false, List, [], length, inl, inr, refl, sym, ◌∙◌, ap, subst, arith, Option, Some, None, Result, Ok, Err, IfOk, unwrap_or, Vec, Global}
 use Rattle.histories.specs.Common.{Layout, Turn, Ask, Done, NodeNo, ScxNo, Step, LoadMarked, LoadSettled, Settled, Head as HeadWord, Side, marked, node, History, value, Extends, Call, IsRun, MatchTurn, begun_at}
-use Rattle.arena.specs.declared.word.Side.TheVariants as sides
 use Rattle.template.specs.Common.{load, IsSnapshot, LlxIsReady, LlxWaits, LlxAnswers, VlxIsReady, VlxWaits, VlxAnswers, vlx_left, Llx, Snapshot, Finalized, Fail, LlxAt, LlxRun, Snap}
 use Rattle.template.specs.Common.{Vlx, Same, Changed, TreeAllows, IsContended, Goal, MayGo, WalkFits, walk_left, HasFoundGoal, FoundBy, IsOwnMoment, WalkIsReady, WalkWaits, IsPastRoot, Key as ToKey}
 use Rattle.prims.specs.Vlx.Laws.{first_looked, looks_next}
@@ -10,11 +9,10 @@ use Rattle.prims.proofs.Lemmas.{turn_first}
 use Rattle.template.specs.Walk.Known.{WalkAnswers}
 use Rattle.template.specs.declared.walk.Found.{Found}
 use Rattle.template.specs.declared.walk.WalkAt.{WalkAt}
-use Rattle.template.specs.declared.walk.WalkAt.TheVariants.{Start as WalkStart, Root as WalkRoot, Head as AtHead, Key as AtKey, Child, More as AtMore, Pair as AtPair, Value as AtValue, High as AtHigh}
+use Rattle.template.specs.declared.walk.WalkAt.TheVariants.{Start as WalkStart, Root as WalkRoot}
 use Rattle.template.specs.declared.walk.WalkRun.{WalkRun}
 use Rattle.template.specs.Balance.{leaf_way, map_mode, nodes_by}
 use Rattle.template.specs.Walk.Steps.{WalkFitsAt, room, steps_left}
-use Rattle.template.specs.declared.walk.Way.TheVariants.{Within}
 use Rattle.order.specs.Found.{BeginsAtRoot, BeginsSo, IsReading, Looks, WalksTo}
 use Rattle.order.specs.Known.{AreLastTurns, IsSameRead, ReadAnswers, ReadGoes, ReadIsReady, ReadIsToldAt, ReadTurn, ReadWaits, RunStands, Validates, Walks, WalksInTry}
 use Rattle.order.specs.Laws.Kept.{root_there}

@@ -7,6 +7,7 @@ mod known_load;
 mod last_turns;
 mod load;
 mod neighbour;
+mod push;
 mod range;
 mod read;
 mod refused;

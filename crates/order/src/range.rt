@@ -2,6 +2,7 @@
 ghost use Rattle.std.specs.Prelude.{◌≡◌};
 
 use crate::load::{LeafPlace, ReadLoad};
+use crate::push::push_onto;
 use crate::read::{Children, Read, ReadBegin, ReadNext};
 use crate::refused::Refused;
 use crate::run::ReadRun;
@@ -148,10 +149,11 @@ impl Read for Range {
     ) -> Result<NodeNo, Refused> {
         match children {
             Children::Both => {
-                if self.waiting.push(right).is_err() {
-                    return Err(Refused::NoMemory);
+                if push_onto(&mut self.waiting, right) {
+                    Ok(left)
+                } else {
+                    Err(Refused::NoMemory)
                 }
-                Ok(left)
             }
             Children::Left => Ok(left),
             Children::Right => Ok(right),
@@ -203,10 +205,11 @@ impl Read for Range {
 
     #[inline(always)]
     fn value_on(&mut self, place: LeafPlace, pair: Pair) -> Result<ReadNext, Refused> {
-        if self.taken.push(pair).is_err() {
-            return Err(Refused::NoMemory);
+        if push_onto(&mut self.taken, pair) {
+            Ok(self.go_on(place))
+        } else {
+            Err(Refused::NoMemory)
         }
-        Ok(self.go_on(place))
     }
 
     #[inline(always)]

@@ -6,6 +6,7 @@ ghost use Rattle.order.specs.LastTurns.{Counts, CountsNot, TurnsSo};
 use crate::known_load::{HeadLoad, HighLoad, KeyLoad, KnownLoad, MoreLoad, PairLoad, ValueLoad};
 use crate::last_turns::LastTurns;
 use crate::load::ReadLoad;
+use crate::push::push_onto;
 use crate::read::{Children, Read, ReadBegin, ReadNext};
 use crate::refused::Refused;
 use arena::{
@@ -293,13 +294,14 @@ impl<R: Read + Drop> ReadRun<R> {
             (length self.old.snaps.items + 1 + 67 * (1 + nodes - level) + R.means.behind self.old.read nodes)) }
         ensures tries { self.new.tries ≡ self.old.tries }
     {
-        if self.snaps.push(snap).is_err() {
-            return Err(Refused::NoMemory);
-        }
-        let above = level;
-        match self.read.looked(children, snap.left, snap.right) {
-            Ok(node) => Ok(ReadNext::Load(ReadLoad::Head { above, node })),
-            Err(refused) => Err(refused),
+        if push_onto(&mut self.snaps, snap) {
+            let above = level;
+            match self.read.looked(children, snap.left, snap.right) {
+                Ok(node) => Ok(ReadNext::Load(ReadLoad::Head { above, node })),
+                Err(refused) => Err(refused),
+            }
+        } else {
+            Err(Refused::NoMemory)
         }
     }
 

@@ -6,4 +6,3 @@ mod Seedlings
 mod Planted
 mod Laid
 mod Orders
-mod Counted

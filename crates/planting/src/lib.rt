@@ -12,4 +12,4 @@ mod trees;
 
 pub use order::first_fall;
 pub use planting::Planting;
-pub use room::with_room;
+pub use room::{MOST_NODES, with_room};

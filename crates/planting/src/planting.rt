@@ -16,6 +16,7 @@ use ordered_map::Pair;
 use std::alloc::Global;
 use std::fmt;
 use std::marker::Model;
+use template::map_mode;
 
 /// The first pairs of a map, and the nodes that show them from the start.
 #[derive(Drop)]
@@ -86,13 +87,6 @@ impl Planting {
     {
         self.nodes.len()
     }
-}
-
-/// The mode of a map.
-fn map_mode(trie: bool) -> Mode
-    ensures { result ≡ map_mode trie }
-{
-    if trie { Mode::Trie } else { Mode::Tree }
 }
 
 /// The nodes over these pairs, and the fork above all keys.

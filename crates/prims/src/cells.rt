@@ -2,7 +2,7 @@
 ghost use Rattle.arena.specs.declared.limits.Mode.TheVariants.{Records};
 ghost use Rattle.prims.specs.Cells.{AllowsAll};
 
-use arena::Shape;
+use arena::{Mode, Shape};
 
 /// The shape of records mode: every SCX-record may begin, and nothing more is known of a run.
 #[derive(Debug, Drop)]
@@ -18,4 +18,9 @@ impl Shape for Cells {
     ghost opens = { λ lay o run. tt };
 
     ghost stays = { λ lay h r run held. tt };
+
+    #[inline(always)]
+    fn node_size() -> usize {
+        Mode::Records.node_size()
+    }
 }

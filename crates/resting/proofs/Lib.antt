@@ -4,4 +4,8 @@ mod Touched
 mod Removed
 mod Looks
 mod Unborn
+mod Never
+mod StaysUnborn
+mod Unnamed
 mod Periods
+pub mod Lemmas

@@ -12,7 +12,7 @@ use Rattle.touching.proofs.Lemmas.{left_scx, left_untouched, step_touches, taken
 use Rattle.resting.specs.Dead.{HasLeftUnmarked, IsLetGoScx}
 use Rattle.resting.specs.Reach.{IsOutOfReach}
 use Rattle.resting.specs.Records.{Record, the_node, the_scx, record_of}
-use Rattle.resting.specs.Rests.{PassesOver, past_node, past_scx, IsRowSince, AreSince}
+use Rattle.resting.specs.Rests.{PassesOver, past_node, past_scx, IsRowSince, HaveRestedAt, AreSince}
 use Rattle.resting.proofs.Rows.{taken_node_since}
 
 abbrev pub InTree : Layout → History → ℕ → Type 0
@@ -29,7 +29,7 @@ module _ (P : Layout → History → ℕ → Type 0) (c : Call) (h : History) wh
   node_touched (Node m part) n e x = subst (TouchesNode P c h) (ap number_of e) x
   node_touched (Scx s part) n e x = absurd (let d : the_scx s.0 ≡ the_node n = e in cc)
 
-  scx_touched : (w : Word) (s : ℕ) → record_of w ≡ the_scx s → Touches P c h w → TouchesScx P c h s
+  pub scx_touched : (w : Word) (s : ℕ) → record_of w ≡ the_scx s → Touches P c h w → TouchesScx P c h s
   scx_touched (Scx u part) s e x = subst (TouchesScx P c h) (ap number_of e) x
   scx_touched (Node m part) s e x = absurd (let d : the_node m.0 ≡ the_scx s = e in cc)
 
@@ -60,7 +60,7 @@ in_layout lay P c e p = subst P (sym e) p
 
 -- so it is out of reach
 pub missed_out : (lay : Layout) (h : History) (last : ℕ → History) (x : Record)
-    → ((k g : History) (o : ℕ) → Extends k h → IsMapRun lay k → Extends k g → o < lay.passes → IsMissed lay o g (last o) x × IsNotPassed lay o g (last o) x)
+    → ((k g : History) (o : ℕ) → Extends k h → IsMapRun lay k → HaveRestedAt lay k last → Extends k g → o < lay.passes → IsMissed lay o g (last o) x × IsNotPassed lay o g (last o) x)
     → IsOutOfReach lay h last x
 missed_out lay h last x missed k g r e run rested within since = go ((rested o i).rows r g within since refl)
   where
@@ -74,7 +74,7 @@ missed_out lay h last x missed k g r e run rested within since = go ((rested o i
     i = (lawful_row lay g r l).pass
 
     here : IsMissed lay o g (last o) x × IsNotPassed lay o g (last o) x
-    here = missed k g o e run (ends_trans k (r ⊳ g) g within (inr (ends_self g))) i
+    here = missed k g o e run rested (ends_trans k (r ⊳ g) g within (inr (ends_self g))) i
 
     go : IsRowSince lay o (last o) g r → ¬ (record_of r.word ≡ x)
     go (inl y) = here.0 y.call r y.layout y.pass y.since (step_touches y.call g r y.step)
@@ -86,7 +86,7 @@ module _ (lay : Layout) (o : ℕ) (g rest : History) where
   node_not_passed n taken r l own (past_node m free kind word) e = free (subst (IsTakenNode rest) (ap number_of (sym e ∙ ap record_of word)) taken)
   node_not_passed n taken r l own (past_scx s part its free word) e = absurd (let d : the_scx s ≡ the_node n = sym (ap record_of word) ∙ e in cc)
 
-  scx_not_passed : (s : ℕ) → IsTakenScx rest s → IsNotPassed lay o g rest (the_scx s)
+  pub scx_not_passed : (s : ℕ) → IsTakenScx rest s → IsNotPassed lay o g rest (the_scx s)
   scx_not_passed s taken r l own (past_scx u part its free word) e = free (subst (IsTakenScx rest) (ap number_of (sym e ∙ ap record_of word)) taken)
   scx_not_passed s taken r l own (past_node m free kind word) e = absurd (let d : the_node m ≡ the_scx s = sym (ap record_of word) ∙ e in cc)
 
@@ -94,7 +94,7 @@ module _ (lay : Layout) (o : ℕ) (g rest : History) where
 -- since touches it.
 module _ (lay : Layout) (h : History) (last : ℕ → History) (t : History) (since : AreSince lay last t) where
   pub node_out : (n : ℕ) → IsTakenNode t n → ((c : Call) (g : History) → c.layout ≡ lay → IsMapRun lay g → Extends g c.start → Extends c.start t → IsTakenNode c.start n → ¬ TouchesNode InTree c g n) → IsOutOfReach lay h last (the_node n)
-  node_out n taken untouched = missed_out lay h last (the_node n) (λ k g o e run within i. (missed k g o run within i, node_not_passed lay o g (last o) n (taken_node_since (last o) t n (since o i) taken)))
+  node_out n taken untouched = missed_out lay h last (the_node n) (λ k g o e run rested within i. (missed k g o run within i, node_not_passed lay o g (last o) n (taken_node_since (last o) t n (since o i) taken)))
     where
       missed : (k g : History) (o : ℕ) → IsMapRun lay k → Extends k g → o < lay.passes → IsMissed lay o g (last o) (the_node n)
       missed k g o run within i c r lay_is pass_is begun touches is = untouched c g lay_is (run_since lay k g run within) (node_begun InTree c g n start here) after start here
@@ -109,7 +109,7 @@ module _ (lay : Layout) (h : History) (last : ℕ → History) (t : History) (si
           start = taken_node_since c.start t n after taken
 
   pub scx_out : (s : ℕ) → IsTakenScx t s → ((c : Call) (g : History) → c.layout ≡ lay → IsMapRun lay g → Extends g c.start → Extends c.start t → ¬ TouchesScx InTree c g s) → IsOutOfReach lay h last (the_scx s)
-  scx_out s taken untouched = missed_out lay h last (the_scx s) (λ k g o e run within i. (missed k g o run within i, scx_not_passed lay o g (last o) s (taken_scx_since (last o) t s (since o i) taken)))
+  scx_out s taken untouched = missed_out lay h last (the_scx s) (λ k g o e run rested within i. (missed k g o run within i, scx_not_passed lay o g (last o) s (taken_scx_since (last o) t s (since o i) taken)))
     where
       missed : (k g : History) (o : ℕ) → IsMapRun lay k → Extends k g → o < lay.passes → IsMissed lay o g (last o) (the_scx s)
       missed k g o run within i c r lay_is pass_is begun touches is = untouched c g lay_is (run_since lay k g run within) (scx_begun InTree c g s (taken_scx_since c.start t s after taken) here) after here

@@ -1,7 +1,7 @@
--- What an aborted SCX-record was to put in was never in the tree or the trie, nor is it ever; so no
--- other pass comes to it.
+-- To a node that is never in the tree or the trie no pass comes but its own. So it is with what an
+-- aborted SCX-record was to put in.
 use Rattle.std.proofs.Common.{◌≡◌, ◌≢◌, ◌<◌, ◌⊎◌, ℕ, true, false, inl, inr, sym, ◌∙◌, ap, subst, arith}
-use Rattle.histories.specs.Common.{Layout, Member, New, Plan, ScxWord, Kind, Settled, Head, node, scx, History, ◌⊳◌, Extends, HasHeld, value, state, info, child, count, count_of, member, new, field, field_index, old, descriptor, IsNamed, IsNamedScx, IsInProgress, IsOwnNode, MayFill, Obeys, Lawful, HasWon}
+use Rattle.histories.specs.Common.{Layout, Member, New, Plan, ScxWord, Kind, Settled, Head, node, scx, History, ◌⊳◌, Extends, HasHeld, value, state, info, child, count, count_of, member, new, field, field_index, old, descriptor, IsNamed, IsNamedScx, IsInProgress, IsOwnNode, IsTakenNode, MayFill, Obeys, Lawful, HasWon}
 use Rattle.arena.proofs.Lemmas.{ends_self, ends_trans, held_since}
 use Rattle.histories.proofs.Lemmas.{About, Facts, IsScxFill, UpdateWins, aborted_never_won, facts, first_frozen, lawful_row, lawful_since, one_node_owner, scx_since, state_since, update_flagged, update_in_progress, update_is_first}
 use Rattle.ordered_map.specs.Paths.{WasInTree}
@@ -15,7 +15,7 @@ use Rattle.touching.proofs.Lemmas.{HasBegunEdit, HasWonAt, IsMadeAt, IsPending, 
 use Rattle.resting.specs.Dead.{IsOfAborted, IsToBePutIn}
 use Rattle.resting.specs.Reach.{IsOutOfReach}
 use Rattle.resting.specs.Records.{record_of, the_node, the_scx}
-use Rattle.resting.specs.Rests.{past_node, past_scx}
+use Rattle.resting.specs.Rests.{HaveRestedAt, past_node, past_scx}
 use Rattle.resting.proofs.Rows.{taken_node_since}
 use Rattle.resting.proofs.Touched.{InTree, IsMissed, IsNotPassed, missed_out, node_not_passed, node_touched, number_of}
 
@@ -117,29 +117,29 @@ module _ (lay : Layout) (t : History) (s n : ℕ) (run : IsMapRun lay t) (its_re
   never_there k run_k e = (new_facts lay k run_k).unborn s n (pending k run_k.1.lawful e)
       record { row = b.row; before = b.before; within = ends_trans k t (b.row ⊳ b.before) e b.within; begins = b.begins; may_begin = b.may_begin; edit = b.edit; may = b.may } made
 
--- So no pass comes to it but its own, nor that in a later call.
-pub aborted_out : (lay : Layout) (h : History) (last : ℕ → History) (t : History) (p n : ℕ) → IsMapRun lay h → Extends h t → IsOfAborted lay p t n → Extends (last p) t → IsOutOfReach lay h last (the_node n)
-aborted_out lay h last t p n run_h within_h dead rested = missed_out lay h last (the_node n) (λ k g o e run within i. (missed k g o e run within i, not_passed k g o e run))
+-- To a node of the pass p that is never in the tree no other pass comes, nor does p in a later call
+-- than that in which it took it.
+pub never_out : (lay : Layout) (h : History) (last : ℕ → History) (p n : ℕ) → IsOwnNode lay p n → IsTakenNode (last p) n
+    → ((k : History) → Extends k h → IsMapRun lay k → HaveRestedAt lay k last → ¬ WasInTree k n)
+    → IsOutOfReach lay h last (the_node n)
+never_out lay h last p n its_own taken never = missed_out lay h last (the_node n) (λ k g o e run rested within i. (missed k g o e run rested within i, not_passed k g o e run))
   where
-    never : (k : History) → IsMapRun lay k → Extends k h → ¬ WasInTree k n
-    never k run e = never_there lay t dead.scx n (run_since lay h t run_h within_h) dead.real dead.begun dead.aborted dead.put_in k run (ends_trans k h t e within_h)
-
-    missed : (k g : History) (o : ℕ) → Extends k h → IsMapRun lay k → Extends k g → o < lay.passes → IsMissed lay o g (last o) (the_node n)
-    missed k g o e run within i c r lay_is pass_is begun touches is = go (node_touched InTree c g r.word n is touches)
+    missed : (k g : History) (o : ℕ) → Extends k h → IsMapRun lay k → HaveRestedAt lay k last → Extends k g → o < lay.passes → IsMissed lay o g (last o) (the_node n)
+    missed k g o e run rested within i c r lay_is pass_is begun touches is = go (node_touched InTree c g r.word n is touches)
       where
         stood : (m : History) → Extends g m → ¬ WasInTree m n
-        stood m a x = never k run e (was_since k m n (ends_trans k g m within a) x)
+        stood m a x = never k e run rested (was_since k m n (ends_trans k g m within a) x)
 
         go : TouchesNode InTree c g n → ⊥
         go (was_so x) = stood x.moment x.within (is_was x.moment n x.was)
         go (covered s x) = stood x.moment x.within (reached_stood lay x.moment s n (run_since lay k x.moment run (ends_trans k g x.moment within x.within)) x.was.0 x.was.1)
         go (own_node own free) =
             let mine : IsOwnNode lay o n = subst (λ q. IsOwnNode lay q n) pass_is (subst (λ v. IsOwnNode v c.pass n) lay_is own) in
-            let same : o ≡ p = one_node_owner lay o p n mine dead.own in
-            free (taken_node_since c.start t n (ends_trans c.start (last o) t begun (subst (λ q. Extends (last q) t) (sym same) rested)) dead.taken)
+            let same : o ≡ p = one_node_owner lay o p n mine its_own in
+            free (taken_node_since c.start (last o) n begun (subst (λ q. IsTakenNode (last q) n) (sym same) taken))
 
     not_passed : (k g : History) (o : ℕ) → Extends k h → IsMapRun lay k → IsNotPassed lay o g (last o) (the_node n)
-    not_passed k g o e run r l own (past_node m free kind at) is = node_not_passed lay o g (last o) n (taken_node_since (last o) t n (subst (λ q. Extends (last q) t) (sym same) rested) dead.taken) r l own (past_node m free kind at) is
+    not_passed k g o e run r l own (past_node m free kind at) is = node_not_passed lay o g (last o) n (subst (λ q. IsTakenNode (last q) n) (sym same) taken) r l own (past_node m free kind at) is
       where
         any : MayFill lay g r.pass.0 r.word r.after
         any = subst (λ (a : Kind). Obeys lay g r a) kind (lawful_row lay g r l).obeys
@@ -148,5 +148,10 @@ aborted_out lay h last t p n run_h within_h dead rested = missed_out lay h last 
         may = subst (λ w. MayFill lay g r.pass.0 w r.after) at any
 
         same : o ≡ p
-        same = one_node_owner lay o p n (subst (λ v. IsOwnNode lay v n) own (subst (λ v. IsOwnNode lay r.pass.0 v) (ap number_of (sym (ap record_of at) ∙ is)) may.own)) dead.own
+        same = one_node_owner lay o p n (subst (λ v. IsOwnNode lay v n) own (subst (λ v. IsOwnNode lay r.pass.0 v) (ap number_of (sym (ap record_of at) ∙ is)) may.own)) its_own
     not_passed k g o e run r l own (past_scx s part its free at) is = absurd (let d : the_scx s ≡ the_node n = sym (ap record_of at) ∙ is in cc)
+
+-- so it is with what an aborted SCX-record was to put in
+pub aborted_out : (lay : Layout) (h : History) (last : ℕ → History) (t : History) (p n : ℕ) → IsMapRun lay h → Extends h t → IsOfAborted lay p t n → Extends (last p) t → IsOutOfReach lay h last (the_node n)
+aborted_out lay h last t p n run_h within dead rested = never_out lay h last p n dead.own (taken_node_since (last p) t n rested dead.taken)
+    (λ k e run _. never_there lay t dead.scx n (run_since lay h t run_h within) dead.real dead.begun dead.aborted dead.put_in k run (ends_trans k h t e within))

@@ -1,6 +1,7 @@
 -- Which nodes are marked, and which records are dead.
 use Rattle.std.specs.Prelude.{◌≡◌, ◌≢◌, ◌⊎◌, ℕ, true, false}
-use Rattle.histories.specs.Common.{Layout, Side, History, Extends, value, state, info, marked, child, count, member, new, log, is_final, IsOwnNode, IsTakenNode, IsTakenScx, IsNamedScx}
+use Rattle.histories.specs.Common.{Layout, Side, History, Extends, value, state, info, marked, child, count, member, new, log, is_final, IsOwnNode, IsOwnScx, IsTakenNode, IsTakenScx, IsNamedScx}
+use Rattle.ordered_map.specs.Paths.{WasInTree}
 use Rattle.ordered_map.specs.TreeWords.{is_leaf}
 use Rattle.touching.specs.Left.{HasLeft, IsNamedByLeft}
 use Rattle.touching.specs.Rests.{IsLetGo}
@@ -49,6 +50,19 @@ pub record IsOfAborted (lay : Layout) (o : ℕ) (t : History) (n : ℕ) : Type 0
   pub begun : IsNamedScx t scx
   pub aborted : value t (state scx) ≡ 2
   pub put_in : IsToBePutIn t scx n
+
+-- the node is the pass's own, which has taken it, and has never been in the tree or the trie
+pub record IsUnborn (lay : Layout) (o : ℕ) (t : History) (n : ℕ) : Type 0 where
+  pub own : IsOwnNode lay o n
+  pub taken : IsTakenNode t n
+  pub never : ¬ WasInTree t n
+
+-- the SCX-record is the pass's own, which has taken it; it is finished, and no info has named it
+pub record IsUnnamedScx (lay : Layout) (o : ℕ) (t : History) (s : ℕ) : Type 0 where
+  pub own : IsOwnScx lay o s
+  pub taken : IsTakenScx t s
+  pub finished : value t (state s) ≢ 0
+  pub unnamed : ¬ IsNamedScx t s
 
 -- the record is a marked node
 abbrev pub IsMarkedRecord : Record → History → Type 0

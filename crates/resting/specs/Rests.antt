@@ -4,9 +4,9 @@ use Rattle.histories.specs.Common.{Layout, ScxWord, Settled, Head, Fill, Row, Hi
 use Rattle.prims.specs.Moments.{AreFinished}
 use Rattle.touching.specs.Steps.{IsStepSince}
 
--- The row is of no call: by it a pass passes over a name of its own that nobody had taken as it
--- rested, of a node by a fill of its head, of an SCX-record by a row of any word. An SCX-record
--- that it takes so has to be finished by its pass, or else the pass never rests again.
+-- By the row a pass passes over a name of its own that nobody had taken as it rested: of a node by
+-- a fill of its head, of an SCX-record by a row of any word. A row of a call may look so, too. An
+-- SCX-record that is taken so has to be finished by its pass, or else the pass never rests again.
 pub data PassesOver (lay : Layout) (rest : History) (r : Row) : Type 0 where
   past_node : (n : ℕ) → ¬ IsTakenNode rest n → r.kind ≡ Fill → r.word ≡ node n (Settled Head) → PassesOver lay rest r
   past_scx : (s : ℕ) (part : ScxWord) → IsOwnScx lay r.pass.0 s → ¬ IsTakenScx rest s → r.word ≡ scx s part → PassesOver lay rest r

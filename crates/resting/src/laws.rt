@@ -1,19 +1,25 @@
 //! What is out of every pass's reach, and when.
 ghost use Rattle.std.specs.Prelude.{◌≡◌, ◌≢◌, ◌<◌, ℕ, true};
 ghost use Rattle.arena.specs.declared.layout.Layout.{Layout};
+ghost use Rattle.arena.specs.declared.step.Kind.{Kind};
 ghost use Rattle.arena.specs.declared.step.Row.{Row};
-ghost use Rattle.arena.specs.History.{History, ◌⊳◌, Extends, value};
+ghost use Rattle.arena.specs.declared.word.NodeWord.{NodeWord};
+ghost use Rattle.arena.specs.declared.word.Side.{Side};
+ghost use Rattle.arena.specs.Fills.{IsNamed, IsOwnNode};
+ghost use Rattle.arena.specs.History.{History, ◌⊳◌, Extends, HasHeld, value};
 ghost use Rattle.arena.specs.Lawful.{Lawful};
 ghost use Rattle.arena.specs.Log.{log, is_final};
-ghost use Rattle.arena.specs.ScxRecords.{count};
-ghost use Rattle.arena.specs.Words.{info, state};
+ghost use Rattle.arena.specs.ScxRecords.{count, new};
+ghost use Rattle.arena.specs.Words.{child, info, node, state};
 ghost use Rattle.prims.specs.Moments.{AreFinished};
+ghost use Rattle.ordered_map.specs.Paths.{WasInTree};
 ghost use Rattle.ordered_map.specs.Runs.{IsMapRun};
+ghost use Rattle.edits.specs.Tries.{HasEnteredNone, HasEnteredOnly};
 ghost use Rattle.touching.specs.Left.{IsNamedByLeft};
-ghost use Rattle.resting.specs.Dead.{IsDead, IsMarkedNode, IsOfAborted, IsRemovedNode, WasDoneWith};
+ghost use Rattle.resting.specs.Dead.{IsDead, IsMarkedNode, IsOfAborted, IsRemovedNode, IsUnborn, IsUnnamedScx, WasDoneWith};
 ghost use Rattle.resting.specs.Periods.{IsPeriod, IsRightNote, Note, dead_by, marked_or_dead, out_of_reach};
 ghost use Rattle.resting.specs.Reach.{IsOutOfReach};
-ghost use Rattle.resting.specs.Records.{Record, record_of, the_node};
+ghost use Rattle.resting.specs.Records.{Record, record_of, the_node, the_scx};
 ghost use Rattle.resting.specs.Rests.{AreSince, HasRestedAt, HaveMovedOn, HaveRestedAt, IsAway, IsRowSince};
 
 /// What a rest is. Between two calls a pass rests, or goes away; a pass that is away rests at each
@@ -39,9 +45,11 @@ pub fn rests_hold()
 /// What comes back. A marked node is dead as soon as its remover, which its info names, is seen
 /// finished, and at the latest when a period is over since the mark; then it is final. What is
 /// dead is out of reach when all passes have rested since; what an aborted SCX-record was to put
-/// in, when its own pass has. And if an SCX-record was done with each of its nodes, with each at a
-/// moment of its own, only nodes name it that are final or have left. It does nothing; a caller
-/// learns this from its contract.
+/// in, when its own pass has; and a node that was never put in, as soon as its pass rests. If an
+/// SCX-record was done with each of its nodes, with each at a moment of its own, only nodes name it
+/// that are final or have left: so one that no info has ever named, as it never began or was passed
+/// over, is dead as soon as it is finished; and that is out of reach as soon as its pass rests. It
+/// does nothing; a caller learns this from its contract.
 pub fn dead_comes_back()
     ensures marked { (lay : Layout) (t snapshot end : History) (n : ℕ) → Lawful lay end
         → IsMarkedNode t n → Extends snapshot t → IsPeriod lay snapshot end
@@ -56,8 +64,37 @@ pub fn dead_comes_back()
     ensures aborted { (lay : Layout) (h : History) (last : ℕ → History) (t : History) (p n : ℕ)
         → IsMapRun lay h → Extends h t → IsOfAborted lay p t n → Extends (last p) t
         → IsOutOfReach lay h last (the_node n) }
+    ensures unborn { (lay : Layout) (h : History) (last : ℕ → History) (p n : ℕ)
+        → p < lay.passes → IsUnborn lay p (last p) n → IsOutOfReach lay h last (the_node n) }
+    ensures unnamed { (lay : Layout) (h : History) (last : ℕ → History) (p s : ℕ)
+        → p < lay.passes → IsUnnamedScx lay p (last p) s → IsOutOfReach lay h last (the_scx s) }
     ensures look { (lay : Layout) (h : History) (s : ℕ) → IsMapRun lay h → s ≢ 0
         → ((j : ℕ) → j < count h s → WasDoneWith lay h s j) → IsNamedByLeft lay h s }
+{}
+
+/// Which nodes have never been in the tree or the trie: one that is not named, as each is that a
+/// row fills. So it is until an update: if it is a pass's own, until one of that pass. So what a
+/// call has taken was never there if the call has made no update, or only that of an SCX-record
+/// that was to put in others. And what its pass had taken as it rested, and was never there, never
+/// is. It does nothing; a caller learns this from its contract.
+pub fn unborn_stays_out()
+    ensures unnamed { (lay : Layout) (h : History) (n : ℕ) → IsMapRun lay h → ¬ IsNamed lay h n
+        → ¬ WasInTree h n }
+    ensures filled { (lay : Layout) (h : History) (r : Row) (n : ℕ) (part : NodeWord)
+        → IsMapRun lay (r ⊳ h) → r.kind ≡ Kind.Fill → r.word ≡ node n part
+        → ¬ WasInTree (r ⊳ h) n }
+    ensures rows { (lay : Layout) (h : History) (r : Row) (n : ℕ) → IsMapRun lay (r ⊳ h)
+        → r.kind ≢ Kind.Update → ¬ WasInTree h n → ¬ WasInTree (r ⊳ h) n }
+    ensures none { (lay : Layout) (h start : History) (p n : ℕ) → p < lay.passes → IsMapRun lay h
+        → IsOwnNode lay p n → ¬ WasInTree start n → Extends h start
+        → HasEnteredNone lay p h start → ¬ WasInTree h n }
+    ensures others { (lay : Layout) (h start : History) (p n : ℕ) → p < lay.passes
+        → IsMapRun lay h → IsOwnNode lay p n → ¬ WasInTree start n → (s : ℕ) → Extends h start
+        → HasEnteredOnly lay p s h start → n ≢ new h s
+        → ((side : Side) → ¬ HasHeld h (child (new h s) side) n) → ¬ WasInTree h n }
+    ensures stays { (lay : Layout) (h : History) (p : ℕ) (rest : History) (n : ℕ)
+        → p < lay.passes → IsMapRun lay h → HasRestedAt lay h p rest → IsUnborn lay p rest n
+        → IsUnborn lay p h n }
 {}
 
 /// What is out of reach stays so, whatever rows are made, and when the moments of the rests move

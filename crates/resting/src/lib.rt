@@ -3,4 +3,4 @@
 
 mod laws;
 
-pub use laws::{dead_comes_back, notes_hold, reach_holds, rests_hold};
+pub use laws::{dead_comes_back, notes_hold, reach_holds, rests_hold, unborn_stays_out};

@@ -119,7 +119,7 @@ module _ (goal : Goal) (c : Call) (h : History) (f : Found) (run : IsMapRun c.la
       let deep : f.head.level < 67 + length (taken_nodes h) = no_deeper c.layout.mode (length (taken_nodes h)) f.head.level a.deep in
       let few : length (taken_nodes h) ≤ most_taken c.layout = taken_few c.layout h run.1.lawful in
       let planted : c.layout.planted ≤ 67108864 = c.layout.planted_fit in
-      let most : c.layout.passes * c.layout.nodes ≤ 32 * 32768 = mul-le c.layout.passes c.layout.nodes 32 32768 c.layout.passes_fit c.layout.nodes_fit in
+      let most : c.layout.passes * c.layout.nodes ≤ 32 * 1125899906842624 = mul-le c.layout.passes c.layout.nodes 32 1125899906842624 c.layout.passes_fit c.layout.nodes_fit in
       omega (arith, deep, few, planted, most)
 
 -- what a leaf answers does not change with its settled words

@@ -1,6 +1,9 @@
 //! Whether a dictionary is a tree or a trie: as a value, and as types, so that what is known when the
 //! program is built costs nothing.
 ghost use Rattle.std.specs.Prelude.{◌≡◌, Bool, true, false};
+ghost use Rattle.template.specs.Balance.{map_mode};
+
+use arena::Mode;
 
 /// Whether a dictionary is a tree or a trie.
 pub trait Balance: Copy {
@@ -18,6 +21,14 @@ impl Balance for bool {
     fn in_trie(&self) -> bool {
         *self
     }
+}
+
+/// The mode of a dictionary's tables.
+#[inline(always)]
+pub fn map_mode(trie: bool) -> Mode
+    ensures { result ≡ map_mode trie }
+{
+    if trie { Mode::Trie } else { Mode::Tree }
 }
 
 /// Which of the two a type says by itself.

@@ -5,7 +5,7 @@ mod balance;
 mod shape;
 mod walk;
 
-pub use balance::{Balance, ByBits, ByOrder, FixedBalance};
+pub use balance::{Balance, ByBits, ByOrder, FixedBalance, map_mode};
 pub use ordered_map::Goal;
 pub use shape::Tree;
 pub use walk::{Found, Trail, WalkAt, WalkRun, Way};

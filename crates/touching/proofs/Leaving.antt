@@ -566,6 +566,17 @@ new_facts lay (Opened o) run = record {
     none s p = p.real (sym (held_start o (info p.named.0) s p.named.1) ∙ opening_info o p.named.0)
 new_facts lay (r ⊳ h) run = let before = new_facts lay h (run_since lay (r ⊳ h) h run (inr (ends_self h))) in record { unborn = unborn_now lay h r run before; keeps = keeps_now lay h r run before }
 
+-- so what has been in the tree by now was there before, or this row has put it in
+pub put_or_stood : (lay : Layout) (h : History) (r : Row) (n : ℕ) → IsMapRun lay (r ⊳ h) → WasInTree (r ⊳ h) n → WasInTree h n ⊎ IsPutIn lay h r n
+put_or_stood lay h r n run was = go (was_or_is lay h r run facts n was)
+  where
+    facts : NewFacts lay h
+    facts = new_facts lay h (run_since lay (r ⊳ h) h run (inr (ends_self h)))
+
+    go : IsInTree (r ⊳ h) n ⊎ WasInTree h n → WasInTree h n ⊎ IsPutIn lay h r n
+    go (inr y) = inl y
+    go (inl y) = ⊎_elim (λ q. inl (is_was lay h r run facts n q)) inr (step lay h r run n y facts.keeps)
+
 -- So what has been in the tree and is not there now is not there after one more row
 
 came_back : (lay : Layout) (h : History) (r : Row) (n : ℕ) → IsMapRun lay (r ⊳ h) → WasInTree h n → IsInTree (r ⊳ h) n → IsInTree h n

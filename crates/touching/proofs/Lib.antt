@@ -11,6 +11,7 @@ mod Calling
 mod Fresh
 mod Dead
 mod Storing
+mod Putting
 mod Stepping
 mod Standing
 mod EditLooks

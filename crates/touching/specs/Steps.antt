@@ -1,7 +1,7 @@
 -- Which rows are steps of calls of maps: what a call has come to by them all the way, and what a
 -- pass has filled by them.
-use Rattle.std.specs.Prelude.{◌≡◌, ◌<◌, ℕ}
-use Rattle.histories.specs.Common.{Layout, NodeWord, ScxWord, Member, Fill, Row, Step, History, ◌⊳◌, Extends, node, scx, Call, row_of}
+use Rattle.std.specs.Prelude.{◌≡◌, ◌<◌, ◌⊎◌, ℕ}
+use Rattle.histories.specs.Common.{Layout, Side, NodeWord, ScxWord, New, Member, Fill, Row, Step, History, ◌⊳◌, Extends, node, scx, child, new, IsInField, IsTakenNode, IsBegin, Call, row_of}
 use Rattle.prims.specs.Moments.{AreFinished}
 use Rattle.dict.specs.Known.{MapWaits}
 use Rattle.dict.specs.declared.run.MapRun.{MapRun}
@@ -33,6 +33,14 @@ MayComeThere P c h r = Touches P c h r.word
 -- where the row fills a `v` word, it stores a node that had no mark at a moment of the call
 abbrev pub StoresUnmarked : Call → History → Row → Type 0
 StoresUnmarked c h r = (s j : ℕ) → r.kind ≡ Fill → r.word ≡ scx s (Member j) → WasUnmarked c h r.after
+
+-- What the row puts in is fresh to the call. What it stores into a field that it fills is in a
+-- field already, or was not taken as the call began; what it stores into `new` was not; and where
+-- it begins an SCX-record, the new node of that was not.
+pub record PutsInFresh (c : Call) (h : History) (r : Row) : Type 0 where
+  pub field : (n : ℕ) (side : Side) → r.kind ≡ Fill → r.word ≡ child n side → IsInField c.layout h r.after ⊎ ¬ IsTakenNode c.start r.after
+  pub stored : (s : ℕ) → r.kind ≡ Fill → r.word ≡ scx s New → ¬ IsTakenNode c.start r.after
+  pub begun : (s : ℕ) → IsBegin h r s → ¬ IsTakenNode c.start (new h s)
 
 -- the row is of no word of this node
 abbrev pub IsNotAtNode : ℕ → Call → History → Row → Type 0

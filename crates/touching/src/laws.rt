@@ -5,7 +5,7 @@ ghost use Rattle.arena.specs.declared.step.Step.{Step};
 ghost use Rattle.arena.specs.declared.word.Word.{Word};
 ghost use Rattle.arena.specs.Blame.{IsInProgress};
 ghost use Rattle.arena.specs.Fills.{IsTakenNode};
-ghost use Rattle.arena.specs.History.{History, Extends, value};
+ghost use Rattle.arena.specs.History.{History, ◌⊳◌, Extends, value};
 ghost use Rattle.arena.specs.Lawful.{HasWon, Lawful};
 ghost use Rattle.arena.specs.Log.{log, is_final};
 ghost use Rattle.arena.specs.Machines.{Call, IsRun, row_of};
@@ -43,7 +43,7 @@ ghost use Rattle.touching.specs.Kinds.{IsInTree, IsNotFinal};
 ghost use Rattle.touching.specs.Left.{AreLetGoOrLeft, HasLeft, IsNamedByLeft};
 ghost use Rattle.touching.specs.Unmarked.{CoversUnmarked};
 ghost use Rattle.touching.specs.Rests.{AllHaveRested, AreLetGo, HasRestedSince, IsNamedByFinal};
-ghost use Rattle.touching.specs.Steps.{AllHavePaused, HasPaused, IsMapCall, IsMapStep, IsNotAtNode, IsNotAtScx, MayComeThere, OfEachStep, StoresUnmarked};
+ghost use Rattle.touching.specs.Steps.{AllHavePaused, HasPaused, IsMapCall, IsMapStep, IsNotAtNode, IsNotAtScx, MayComeThere, OfEachStep, PutsInFresh, StoresUnmarked};
 ghost use Rattle.touching.specs.Touches.{HasReached, MayBeHelped, Touches, TouchesNode, TouchesScx, WasCovered, WasSo, WereSo};
 
 use arena::Shape;
@@ -101,13 +101,15 @@ pub fn dictionaries_touch<K: WordKey, V: WordValue>()
         → Touches (λ lay. IsInTree) c h s.word }
 {}
 
-/// What a whole call of a map comes to, step by step: each word is one that it may come to then, and
-/// what it stores in a `v` word had no mark at a moment of it. It does nothing; a caller learns this
-/// from its contract.
+/// What a whole call of a map comes to, step by step: each word is one that it may come to then;
+/// what it stores in a `v` word had no mark at a moment of it; and what it puts in is fresh to it.
+/// It does nothing; a caller learns this from its contract.
 pub fn steps_touch()
     ensures touches { (c : Call) (h : History) → IsMapCall c h
         → OfEachStep (MayComeThere (λ lay. IsInTree)) c h }
     ensures stores { (c : Call) (h : History) (r : Row) → IsMapStep c h r → StoresUnmarked c h r }
+    ensures fresh { (c : Call) (h : History) (r : Row) → Lawful c.layout (r ⊳ h)
+        → IsMapStep c h r → PutsInFresh c h r }
 {}
 
 /// Each step of a call of a dictionary is one of a call of a map. It does nothing; a caller learns

@@ -112,6 +112,7 @@ module _ {E : Type 0} (e : EditMeaning E) where
     own = x.own;
     own_scx = x.own_scx;
     over = over_more c.layout c.pass scx.scx.0 h r run.lawful (takes_by_others c.layout c.pass scx.scx.0 h r run.lawful other) x.over;
+    untaken = x.untaken;
     tracks = tracks_by_others c.layout c.pass h r (job_of scx) (e.edit m.edit f) run.lawful other x.own_scx x.tracks;
     only = only_more c.layout c.pass scx.scx.0 h r c.start run.lawful x.over x.only;
     found = x.found;
@@ -283,6 +284,7 @@ module _ {E : Type 0} (e : EditMeaning E) where
     own = x.own;
     own_scx = x.own_scx;
     over = over_more c.layout c.pass scx.scx.0 h (row_of c s h) run.lawful (λ t own d free. untaken_at TreeAllows (job_of scx) (begun_at c begin) h scx.at s t w d free) x.over;
+    untaken = x.untaken;
     tracks = tracks_by_scx (begun_at c begin) h scx s (e.edit m.edit f) run x.run.1 w x.tracks;
     only = only_more c.layout c.pass scx.scx.0 h (row_of c s h) c.start run.lawful x.over x.only;
     found = x.found;

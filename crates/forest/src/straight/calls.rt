@@ -5,7 +5,7 @@ ghost use Rattle.arena.specs.Share.{Remaining};
 ghost use Rattle.dict.specs.Calls.{AsksForPairs, IsSmallCall, edit_call};
 ghost use Rattle.dict.specs.Says.{KeepsLists};
 ghost use Rattle.ordered_map.specs.CallRules.{most_steps};
-ghost use Rattle.template.specs.Balance.{nodes_by};
+ghost use Rattle.template.specs.Balance.{map_mode, nodes_by};
 ghost use Rattle.ordered_map.specs.OrderedMap.{Neighbour as NeighbourOf};
 ghost use Rattle.ordered_map.specs.Requests.{as_map_call};
 ghost use Rattle.order.specs.Known.{HasNotBegun};
@@ -42,6 +42,7 @@ pub(crate) fn make<K: WordKey, V: WordValue, B: FixedBalance, G: EditGoal, R: Ed
     edit: KeyEdit<G, R>,
 ) -> (Reply<K, V>, Share)
     requires table { IsAt hand seat.old }
+    requires mode { hand.layout.now.mode ≡ map_mode (B.trie B.the) }
     requires tries { 0 < tries }
     requires small { IsSmallCall (edit_call G.goal R.rule edit) }
     requires in_trie { G.trie edit.goal ≡ B.trie B.the }
@@ -96,6 +97,7 @@ fn neighbour<K: WordKey, V: WordValue, B: FixedBalance>(
     side: Side,
 ) -> Reply<K, V>
     requires table { IsAt hand seat.old }
+    requires mode { hand.layout.now.mode ≡ map_mode (B.trie B.the) }
     requires tries { 0 < tries }
     requires begins { (c : Call) × (share : Remaining) × IsCallOf hand c
         × SeatCallBegins K.is_valid K.word_of V.is_valid V.word_of (B.trie B.the) c
@@ -129,6 +131,7 @@ pub(crate) fn read<K: WordKey, V: WordValue, B: FixedBalance>(
     request: Request<K, V>,
 ) -> Reply<K, V>
     requires table { IsAt hand seat.old }
+    requires mode { hand.layout.now.mode ≡ map_mode (B.trie B.the) }
     requires tries { 0 < tries }
     requires ordered { KeepsLists (as_map_call K.word_of V.word_of request) }
     requires begins { (c : Call) × (share : Remaining) × IsCallOf hand c

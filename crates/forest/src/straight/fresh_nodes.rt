@@ -47,7 +47,7 @@ fn put<S: Shape, M: Machine<S>, E: Edit + Copy>(
     value: u64,
 )
     requires table { IsAt hand seat.old }
-    requires fresh { IsFreshPiece E.means run.now found.now node.nth node.start piece.now }
+    requires fresh { IsFreshPiece hand.layout.now E.means run.now found.now node.nth node.start piece.now }
     requires value { value ≡ word_of piece.now part }
     requires fills { StandsToFill S.Shape M.Machine E.means hand found.now
         seat.old run.now node.nth (Some part) }
@@ -73,7 +73,7 @@ fn fill<S: Shape, M: Machine<S>, E: Edit + Copy>(
     part: NodeWord,
 ) -> Option<NodeWord>
     requires table { IsAt hand seat.old }
-    requires fresh { IsFreshPiece E.means run.now found.now node.nth node.start piece.now }
+    requires fresh { IsFreshPiece hand.layout.now E.means run.now found.now node.nth node.start piece.now }
     requires fills { StandsToFill S.Shape M.Machine E.means hand found.now
         seat.old run.now node.nth (Some part) }
     ensures goes_on { FillGoesOn S.Shape M.Machine E.means hand.entry found.now
@@ -99,7 +99,7 @@ fn fill_pair<S: Shape, M: Machine<S>, E: Edit + Copy>(
     slot: Slot,
 ) -> Option<NodeWord>
     requires table { IsAt hand seat.old }
-    requires fresh { IsFreshPiece E.means run.now found.now node.nth node.start piece.now }
+    requires fresh { IsFreshPiece hand.layout.now E.means run.now found.now node.nth node.start piece.now }
     requires fills { StandsToFill S.Shape M.Machine E.means hand found.now
         seat.old run.now node.nth (Some (NodeWord.Settled (SettledPart.Key slot))) }
     requires leaf { is_leaf_piece piece.now ≡ true }
@@ -134,7 +134,7 @@ fn fill_more<S: Shape, M: Machine<S>, E: Edit + Copy>(
     next: Option<NodeWord>,
 ) -> Option<NodeWord>
     requires table { IsAt hand seat.old }
-    requires fresh { IsFreshPiece E.means run.now found.now node.nth node.start piece.now }
+    requires fresh { IsFreshPiece hand.layout.now E.means run.now found.now node.nth node.start piece.now }
     requires fills { StandsToFill S.Shape M.Machine E.means hand found.now
         seat.old run.now node.nth next }
     requires there { IfSome next (λ part. is_filled piece.now part ≡ true) }
@@ -164,7 +164,7 @@ fn fill_next_pair<S: Shape, M: Machine<S>, E: Edit + Copy>(
     slot: Slot,
 ) -> Option<NodeWord>
     requires table { IsAt hand seat.old }
-    requires fresh { IsFreshPiece E.means run.now found.now node.nth node.start piece.now }
+    requires fresh { IsFreshPiece hand.layout.now E.means run.now found.now node.nth node.start piece.now }
     requires fills { StandsToFill S.Shape M.Machine E.means hand found.now
         seat.old run.now node.nth next }
     requires there { IfSome next (λ part. is_filled piece.now part ≡ true) }
@@ -192,7 +192,7 @@ fn fill_pairs<S: Shape, M: Machine<S>, E: Edit + Copy>(
     next: Option<NodeWord>,
 ) -> Option<NodeWord>
     requires table { IsAt hand seat.old }
-    requires fresh { IsFreshPiece E.means run.now found.now node.nth node.start piece.now }
+    requires fresh { IsFreshPiece hand.layout.now E.means run.now found.now node.nth node.start piece.now }
     requires fills { StandsToFill S.Shape M.Machine E.means hand found.now
         seat.old run.now node.nth next }
     requires there { IfSome next (λ part. is_filled piece.now part ≡ true) }
@@ -222,7 +222,7 @@ pub(crate) fn fill_node<S: Shape, M: Machine<S>, E: Edit + Copy>(
     ensures moves { steps_made seat.old < steps_made seat.new }
 {
     let piece = run.piece(found, nth);
-    let start = hand.layout.node_start(run.nodes.at(nth));
+    let start = hand.node_start(run.nodes.at(nth));
     let node = FreshNode { nth, start };
     let head = NodeWord::Settled(SettledPart::Head);
     let next = fill::<S, M, E>(hand, seat, run, found, node, &piece, head);

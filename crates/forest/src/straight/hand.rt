@@ -1,9 +1,10 @@
 //! What the steps of a call have in hand.
-ghost use Rattle.std.specs.Prelude.{◌≡◌, ⊤};
+ghost use Rattle.std.specs.Prelude.{◌≡◌, ◌<◌, ⊤};
+ghost use Rattle.arena.specs.Layout.{all_nodes, node_size, node_start, start_of, IsWord};
 ghost use Rattle.forest.specs.TableRule.{IsTableOf};
 
 use crate::words::Words;
-use arena::{Layout, Shape};
+use arena::{Layout, NodeNo, Shape, Word};
 use std::alloc::AllocError;
 
 /// Words with their layout, and the number of the call that makes steps on them. Loops copy the
@@ -12,7 +13,10 @@ pub(crate) struct Hand<'a, S: Shape> {
     pub(crate) words: &'a Words<S>,
     pub(crate) layout: &'a Layout,
     pub(crate) number: u64,
+    /// How many words a node has: where the compiler knows the shape, it knows this.
+    pub(crate) size: usize,
     ghost of_table: { IsTableOf words.now.table.shared.table_id words.now.table.shared.key layout.now },
+    ghost of_size: { size ≡ node_size layout.now.mode },
 }
 
 impl<'a, S: Shape> Clone for Hand<'a, S> {
@@ -26,3 +30,24 @@ impl<'a, S: Shape> Clone for Hand<'a, S> {
 }
 
 impl<'a, S: Shape> Copy for Hand<'a, S> {}
+
+impl<'a, S: Shape> Hand<'a, S> {
+    /// Where the words of a node begin.
+    #[inline(always)]
+    pub(crate) fn node_start(self, node: NodeNo) -> usize
+        requires { node.0 < all_nodes self.layout.now }
+        ensures start { result ≡ node_start self.entry.layout.now node }
+        ensures fits { result < 4294967296 }
+    {
+        self.layout.node_start(self.size, node)
+    }
+
+    /// Where the words of the node or of the SCX-record begin that has this word.
+    #[inline(always)]
+    pub(crate) fn start_of(self, word: Word) -> usize
+        requires { IsWord self.layout.now word }
+        ensures { result ≡ start_of self.entry.layout.now word }
+    {
+        self.layout.start_of(self.size, word)
+    }
+}

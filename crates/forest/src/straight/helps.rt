@@ -36,7 +36,7 @@ fn act<S: Shape, M: Machine<S>, T: Shape>(
     ensures { MakesInside (hand_calls S.Shape M.Machine hand.entry) (inner_help T.allows)
         seat.old seat.new record { kind = kind; word = Word.Node node part; access = access } result }
 {
-    let start = hand.layout.node_start(node);
+    let start = hand.node_start(node);
     let word = Word::Node(node, part);
     step_from::<S, M>(hand, seat, Step { kind, word, access }, start)
 }

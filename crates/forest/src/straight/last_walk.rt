@@ -37,7 +37,7 @@ fn end_at<S: Shape, M: Machine<S>>(
     slot: Slot,
 ) -> Found
     requires table { IsAt hand seat.old }
-    requires start { start ≡ node_start trail.node }
+    requires start { start ≡ node_start hand.layout.now trail.node }
     requires slot { slot ≡ end_slot side more }
     requires told { HasWalked S.Shape M.Machine hand seat.old
         (way_at way (Goal.End side) trail (WalkAt.More head)) more }
@@ -66,7 +66,7 @@ fn end_at_side<S: Shape, M: Machine<S>>(
     more: u64,
 ) -> Found
     requires table { IsAt hand seat.old }
-    requires start { start ≡ node_start trail.node }
+    requires start { start ≡ node_start hand.layout.now trail.node }
     requires told { HasWalked S.Shape M.Machine hand seat.old
         (way_at way (Goal.End side) trail (WalkAt.More head)) more }
     ensures table { StaysAtTable seat.old seat.new }
@@ -96,7 +96,7 @@ fn end_last<S: Shape, M: Machine<S>>(
     word: u64,
 ) -> Found
     requires table { IsAt hand seat.old }
-    requires stands { AsksHead trail at start }
+    requires stands { AsksHead hand.layout.now trail at start }
     requires leaf { (head_of word).leaf ≡ true }
     requires told { HasWalked S.Shape M.Machine hand seat.old (way_at way (Goal.End side) trail at)
         word }
@@ -134,7 +134,7 @@ fn pass_last<S: Shape, M: Machine<S>>(
     word: u64,
 ) -> Result<Side, Found>
     requires table { IsAt hand seat.old }
-    requires stands { AsksHead trail at start }
+    requires stands { AsksHead hand.layout.now trail at start }
     requires left { (head_of word).leaf ≡ false
         → open_side (Goal.End side) (head_of word) ≡ Side.Left }
     requires told { HasWalked S.Shape M.Machine hand seat.old (way_at way (Goal.End side) trail at)
@@ -176,11 +176,11 @@ fn descend_right<S: Shape, M: Machine<S>>(
     head: u64,
 ) -> (Reached, u64)
     requires table { IsAt hand seat.old }
-    requires stands { AsksHead first.trail first.at first.start }
+    requires stands { AsksHead hand.layout.now first.trail first.at first.start }
     requires told { (w : Walker (hand_calls S.Shape M.Machine hand))
         × WalkerIsTold w seat.old.me.0.passes
         (way_at way (Goal.End Side.Right) first.trail first.at) first.turns head }
-    ensures stands { AsksHead result.0.trail result.0.at result.0.start }
+    ensures stands { AsksHead hand.entry.layout.now result.0.trail result.0.at result.0.start }
     ensures left { (head_of result.1).leaf ≡ false
         → open_side (Goal.End Side.Right) (head_of result.1) ≡ Side.Left }
     ensures table { StaysAtTable seat.old seat.new }
@@ -213,7 +213,7 @@ pub(crate) fn to_last_from<S: Shape, M: Machine<S>>(
     first: Reached,
 ) -> (Found, LastTurns)
     requires table { IsAt hand seat.old }
-    requires stands { AsksHead first.trail first.at first.start }
+    requires stands { AsksHead hand.layout.now first.trail first.at first.start }
     requires waits { MayWalkFrom S.Shape M.Machine hand seat.old way (Goal.End Side.Right) first }
     ensures table { StaysAtTable seat.old seat.new }
     ensures steps { steps_made seat.new ≤ steps_made seat.old
@@ -226,6 +226,7 @@ pub(crate) fn to_last_from<S: Shape, M: Machine<S>>(
         words: hand.words,
         layout: &layout,
         number: hand.number,
+        size: hand.size,
     };
     let mut place = first;
     loop {

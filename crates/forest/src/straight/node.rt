@@ -17,8 +17,7 @@ use crate::straight::hand::Hand;
 use crate::straight::step::step_from;
 use crate::view::SeatView;
 use arena::{
-    Access, Head, Kind, Layout, Machine, NodeNo, NodeWord, SettledPart, Shape, Side, Slot, Step,
-    Word,
+    Access, Head, Kind, Machine, NodeNo, NodeWord, SettledPart, Shape, Side, Slot, Step, Word,
 };
 use atomic_table::Seat;
 use order::LastTurns;
@@ -73,7 +72,7 @@ pub(crate) fn read<S: Shape, M: Machine<S>>(
     part: NodeWord,
 ) -> u64
     requires table { IsAt hand seat.old }
-    requires start { start ≡ node_start node }
+    requires start { start ≡ node_start hand.layout.now node }
     requires waits { (w : Walker (hand_calls S.Shape M.Machine hand)) × (m : WalkRun)
         × (turn : LastTurns)
         × WalkerWaits w seat.old.me.0.passes m turn (load kind (Word.Node node part)) }
@@ -93,11 +92,11 @@ pub(crate) fn read<S: Shape, M: Machine<S>>(
 /// which the places of all words fit: else the compiler computes beside it where the node's bytes
 /// begin, at each node. A walk to the first pair needs those alone.
 #[inline(always)]
-pub(crate) fn start_for(layout: &Layout, goal: Goal, node: NodeNo) -> usize
-    requires { node.0 < all_nodes layout.now }
-    ensures { result ≡ node_start node }
+pub(crate) fn start_for<S: Shape>(hand: Hand<S>, goal: Goal, node: NodeNo) -> usize
+    requires { node.0 < all_nodes hand.layout.now }
+    ensures { result ≡ node_start hand.entry.layout.now node }
 {
-    let start = layout.node_start(node);
+    let start = hand.node_start(node);
     match goal {
         Goal::End(Side::Left) => start,
         Goal::Key(_) | Goal::End(Side::Right) => start as u32 as usize,
@@ -129,7 +128,7 @@ pub(crate) fn end_with<S: Shape, M: Machine<S>>(
     key: u64,
 ) -> Found
     requires table { IsAt hand seat.old }
-    requires start { start ≡ node_start trail.node }
+    requires start { start ≡ node_start hand.layout.now trail.node }
     requires asked { asked_key goal key ≡ key }
     requires told { HasWalked S.Shape M.Machine hand seat.old
         (way_at way goal trail (WalkAt.Pair head more slot)) key }
@@ -165,13 +164,13 @@ pub(crate) fn descend<S: Shape, M: Machine<S>>(
     side: Side,
 ) -> Reached
     requires table { IsAt hand seat.old }
-    requires start { place.start ≡ node_start place.trail.node }
+    requires start { place.start ≡ node_start hand.layout.now place.trail.node }
     requires waits { (w : Walker (hand_calls S.Shape M.Machine hand))
         × WalkerGoesDown w seat.old.me.0.passes way goal place.trail (head_of word).level side
         place.turns }
     ensures table { StaysAtTable seat.old seat.new }
     ensures one { steps_made seat.new ≡ suc (steps_made seat.old) }
-    ensures below { AsksBelow way (head_of word).level (shared_nodes hand.entry.layout.now) result }
+    ensures below { AsksBelow hand.entry.layout.now way (head_of word).level result }
     ensures down { (w : Walker (hand_calls S.Shape M.Machine hand.entry))
         → WalkerGoesDown w seat.old.me.0.passes way goal place.trail (head_of word).level side
         place.turns
@@ -188,7 +187,7 @@ pub(crate) fn descend<S: Shape, M: Machine<S>>(
         side,
         node: NodeNo(child),
     };
-    let start = start_for(hand.layout, goal, trail.node);
+    let start = start_for(hand, goal, trail.node);
     let head = Head::of(word);
     let at = WalkAt::Head { above: head.level };
     Reached {

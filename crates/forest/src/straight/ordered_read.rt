@@ -1,8 +1,8 @@
 //! Ordered reads, of whatever machine makes one: the first try inline, as long as nothing is in its
 //! way. If something is, or has happened between, the machine of the read continues from there;
 //! until then its place is left as it was.
-ghost use Rattle.std.specs.Prelude.{◌≡◌, suc, Ok};
-ghost use Rattle.forest.specs.StraightReads.{ReadEnds, ReadGoesOn, Reader, ReaderBegins, ReaderEnds, ReaderLooksAgain, ReaderRoots, StandsToRead, again_left, root_left};
+ghost use Rattle.std.specs.Prelude.{◌≡◌, suc, Ok, Err};
+ghost use Rattle.forest.specs.StraightReads.{ReadEnds, ReadEndsFrom, ReadGoesOn, Reader, ReaderBegins, ReaderEnds, ReaderGoesOn, ReaderLooksAgain, ReaderRoots, StandsToRead, again_left, root_left};
 ghost use Rattle.forest.specs.Hands.{IsAt, hand_calls};
 ghost use Rattle.forest.specs.Hosts.{Host, HostedEnds, HostedIsTold, HostedWaits, inner_machine};
 ghost use Rattle.forest.specs.Leads.{Leads, steps_made};
@@ -23,8 +23,8 @@ use crate::straight::vlx::validate;
 use crate::straight::walk;
 use crate::view::SeatView;
 use arena::{
-    Access, Head, Kind, Machine, NodeNo, NodeWord, ScxNo, ScxWord, SettledPart, Shape, Step, Turn,
-    Word,
+    Access, Head, Kind, Machine, NodeNo, NodeWord, ScxNo, ScxWord, SettledPart, Shape, Slot, Step,
+    Turn, Word,
 };
 use atomic_table::Seat;
 use order::{
@@ -76,8 +76,22 @@ pub(crate) fn tell<S: Shape, M: Machine<S>, T: Shape, N: Machine<T>>(
     complete::<S, M, T, N>(hand.words, hand.layout, seat, hand.number, run, turn)
 }
 
-/// Looks at a fork, and returns what is done next, or what the read has answered: that there
-/// is no memory to keep what was found, or, if something is in the way, what its machine answers.
+/// Why a read does not go on here: small, so that the turns of a read keep it in registers.
+#[derive(Clone, Copy)]
+pub(crate) enum ReadStop {
+    /// In its look at this fork it has to ask again for the state of this SCX-record.
+    Again {
+        children: Children,
+        level: u64,
+        node: NodeNo,
+        marked: bool,
+        scx: ScxNo,
+    },
+    /// It ends so.
+    Refused(Refused),
+}
+
+/// Looks at a fork, and returns what is done next.
 #[inline(always)]
 fn look_on<S: Shape, M: Machine<S>, R: Read + Drop>(
     hand: Hand<S>,
@@ -86,7 +100,7 @@ fn look_on<S: Shape, M: Machine<S>, R: Read + Drop>(
     children: Children,
     level: u64,
     node: NodeNo,
-) -> Result<ReadNext, Result<R::Answer, Refused>>
+) -> Result<ReadNext, ReadStop>
     requires table { IsAt hand seat.old }
     requires waits { StandsToRead S.Shape M.Machine R.means hand
         seat.old run.old (ReadNext.Look children level node) }
@@ -96,19 +110,19 @@ fn look_on<S: Shape, M: Machine<S>, R: Read + Drop>(
     match look::<S, M, Tree>(hand, seat, node) {
         Ok(snap) => match run.looked(children, level, snap) {
             Ok(next) => Ok(next),
-            Err(refused) => Err(Err(refused)),
+            Err(refused) => Err(ReadStop::Refused(refused)),
         },
-        Err((marked, scx)) => {
-            let told = look_again::<S, M, R>(hand, seat, run, children, level, node, marked, scx);
-            Err(told)
-        }
+        Err((marked, scx)) => Err(ReadStop::Again {
+            children,
+            level,
+            node,
+            marked,
+            scx,
+        }),
     }
 }
 
-/// Continues with the machine, if something is in the way of a look. Out of line, so that no turn
-/// pays for its locals.
-#[cold]
-#[inline(never)]
+/// Continues with the machine, if something is in the way of a look.
 fn look_again<S: Shape, M: Machine<S>, R: Read + Drop>(
     hand: Hand<S>,
     seat: &mut Seat<u8, SeatView>,
@@ -139,6 +153,34 @@ fn look_again<S: Shape, M: Machine<S>, R: Read + Drop>(
     complete::<S, M, Tree, ReadRun<R>>(hand.words, hand.layout, seat, hand.number, run, turn)
 }
 
+/// Ends a read that stops so: by its machine, if something is in the way. Out of line, so that no
+/// turn pays for its locals.
+#[cold]
+#[inline(never)]
+fn leave<S: Shape, M: Machine<S>, R: Read + Drop>(
+    hand: Hand<S>,
+    seat: &mut Seat<u8, SeatView>,
+    run: &mut ReadRun<R>,
+    stop: ReadStop,
+) -> Result<R::Answer, Refused>
+    requires table { IsAt hand seat.old }
+    requires stops { (r : Reader (hand_calls S.Shape M.Machine hand) R.means)
+        × ReaderGoesOn r seat.old.me.0.passes run.old (Err stop) }
+    ensures { ReadEndsFrom S.Shape M.Machine R.means hand.entry
+        seat.old run.old (Err stop) seat.new run.new result }
+{
+    match stop {
+        ReadStop::Again {
+            children,
+            level,
+            node,
+            marked,
+            scx,
+        } => look_again::<S, M, R>(hand, seat, run, children, level, node, marked, scx),
+        ReadStop::Refused(refused) => Err(refused),
+    }
+}
+
 /// Validates what it has looked at, and returns what the read has answered. If the last load has
 /// not found what was found before, its machine gets that, and continues to the end.
 #[inline(always)]
@@ -162,15 +204,14 @@ fn validate_on<S: Shape, M: Machine<S>, R: Read + Drop>(
     tell::<S, M, Tree, ReadRun<R>>(hand, seat, run, told)
 }
 
-/// Loads a word of a node, and returns what is done next, or that there is no memory to keep
-/// what is found.
+/// Loads a word of a node, and returns what is done next.
 #[inline(always)]
 fn load_on<S: Shape, M: Machine<S>, R: Read + Drop, L: KnownLoad<R>>(
     hand: Hand<S>,
     seat: &mut Seat<u8, SeatView>,
     run: &mut ReadRun<R>,
     load: &L,
-) -> Result<ReadNext, Result<R::Answer, Refused>>
+) -> Result<ReadNext, ReadStop>
     requires table { IsAt hand seat.old }
     requires waits { StandsToRead S.Shape M.Machine R.means hand
         seat.old run.old (ReadNext.Load (L.load load.now)) }
@@ -180,7 +221,7 @@ fn load_on<S: Shape, M: Machine<S>, R: Read + Drop, L: KnownLoad<R>>(
     let value = read::<S, M, Tree, ReadRun<R>>(hand, seat, load.word());
     match load.found(run, value) {
         Ok(next) => Ok(next),
-        Err(refused) => Err(Err(refused)),
+        Err(refused) => Err(ReadStop::Refused(refused)),
     }
 }
 
@@ -192,7 +233,7 @@ fn read_value<S: Shape, M: Machine<S>, R: Read + Drop>(
     run: &mut ReadRun<R>,
     place: LeafPlace,
     key: u64,
-) -> Result<ReadNext, Result<R::Answer, Refused>>
+) -> Result<ReadNext, ReadStop>
     requires table { IsAt hand seat.old }
     requires waits { StandsToRead S.Shape M.Machine R.means hand
         seat.old run.old (ReadNext.Load (ReadLoad.Value place key)) }
@@ -219,7 +260,7 @@ fn read_pair<S: Shape, M: Machine<S>, R: Read + Drop>(
     seat: &mut Seat<u8, SeatView>,
     run: &mut ReadRun<R>,
     place: LeafPlace,
-) -> Result<ReadNext, Result<R::Answer, Refused>>
+) -> Result<ReadNext, ReadStop>
     requires table { IsAt hand seat.old }
     requires waits { StandsToRead S.Shape M.Machine R.means hand
         seat.old run.old (ReadNext.Load (ReadLoad.Pair place)) }
@@ -238,31 +279,56 @@ fn read_pair<S: Shape, M: Machine<S>, R: Read + Drop>(
     }
 }
 
-/// Goes through the pairs of a leaf from this place on.
+/// Loads the pair in this slot, if it is the one that comes next. Where its caller knows the slot,
+/// so does the compiler.
+#[inline(always)]
+fn read_next_pair<S: Shape, M: Machine<S>, R: Read + Drop>(
+    hand: Hand<S>,
+    seat: &mut Seat<u8, SeatView>,
+    run: &mut ReadRun<R>,
+    next: ReadNext,
+    slot: Slot,
+) -> Result<ReadNext, ReadStop>
+    requires table { IsAt hand seat.old }
+    requires waits { StandsToRead S.Shape M.Machine R.means hand seat.old run.old next }
+    ensures { ReadGoesOn S.Shape M.Machine R.means hand.entry 0
+        seat.old run.old (Ok next) seat.new run.new result }
+{
+    match next {
+        ReadNext::Load(ReadLoad::Pair { place }) if place.slot == slot => {
+            read_pair::<S, M, R>(hand, seat, run, LeafPlace { slot, ..place })
+        }
+        _ => Ok(next),
+    }
+}
+
+/// Goes through the pairs of a leaf from this place on: slot by slot, so that the compiler knows
+/// where in the leaf each word is.
 #[inline(always)]
 fn read_pairs<S: Shape, M: Machine<S>, R: Read + Drop>(
     hand: Hand<S>,
     seat: &mut Seat<u8, SeatView>,
     run: &mut ReadRun<R>,
-    first: LeafPlace,
-) -> Result<ReadNext, Result<R::Answer, Refused>>
+    first: ReadNext,
+) -> Result<ReadNext, ReadStop>
     requires table { IsAt hand seat.old }
-    requires waits { StandsToRead S.Shape M.Machine R.means hand
-        seat.old run.old (ReadNext.Load (ReadLoad.Pair first)) }
-    ensures { ReadGoesOn S.Shape M.Machine R.means hand.entry 1
-        seat.old run.old (Ok (ReadNext.Load (ReadLoad.Pair first))) seat.new run.new result }
+    requires waits { StandsToRead S.Shape M.Machine R.means hand seat.old run.old first }
+    ensures { ReadGoesOn S.Shape M.Machine R.means hand.entry 0
+        seat.old run.old (Ok first) seat.new run.new result }
 {
-    let mut place = first;
-    loop {
-        let next = match read_pair::<S, M, R>(hand, seat, run, place) {
-            Ok(next) => next,
-            Err(told) => return Err(told),
-        };
-        match next {
-            ReadNext::Load(ReadLoad::Pair { place: behind }) => place = behind,
-            _ => return Ok(next),
-        }
-    }
+    let second = match read_next_pair::<S, M, R>(hand, seat, run, first, Slot::First) {
+        Ok(next) => next,
+        Err(stop) => return Err(stop),
+    };
+    let third = match read_next_pair::<S, M, R>(hand, seat, run, second, Slot::Second) {
+        Ok(next) => next,
+        Err(stop) => return Err(stop),
+    };
+    let fourth = match read_next_pair::<S, M, R>(hand, seat, run, third, Slot::Third) {
+        Ok(next) => next,
+        Err(stop) => return Err(stop),
+    };
+    read_next_pair::<S, M, R>(hand, seat, run, fourth, Slot::Fourth)
 }
 
 /// Loads the head of a node, and the key of a fork or how many pairs a leaf has.
@@ -273,7 +339,7 @@ fn read_node<S: Shape, M: Machine<S>, R: Read + Drop>(
     run: &mut ReadRun<R>,
     above: u64,
     node: NodeNo,
-) -> Result<ReadNext, Result<R::Answer, Refused>>
+) -> Result<ReadNext, ReadStop>
     requires table { IsAt hand seat.old }
     requires waits { StandsToRead S.Shape M.Machine R.means hand
         seat.old run.old (ReadNext.Load (ReadLoad.Head above node)) }
@@ -295,27 +361,6 @@ fn read_node<S: Shape, M: Machine<S>, R: Read + Drop>(
     }
 }
 
-/// Goes through the pairs of a leaf, if these come next.
-#[inline(always)]
-fn pairs_next<S: Shape, M: Machine<S>, R: Read + Drop>(
-    hand: Hand<S>,
-    seat: &mut Seat<u8, SeatView>,
-    run: &mut ReadRun<R>,
-    next: ReadNext,
-) -> Result<ReadNext, Result<R::Answer, Refused>>
-    requires table { IsAt hand seat.old }
-    requires waits { StandsToRead S.Shape M.Machine R.means hand seat.old run.old next }
-    ensures { ReadGoesOn S.Shape M.Machine R.means hand.entry 0
-        seat.old run.old (Ok next) seat.new run.new result }
-{
-    match next {
-        ReadNext::Load(ReadLoad::Pair { place }) => {
-            read_pairs::<S, M, R>(hand, seat, run, place)
-        }
-        _ => Ok(next),
-    }
-}
-
 /// Looks at a fork, if that comes next.
 #[inline(always)]
 fn look_next<S: Shape, M: Machine<S>, R: Read + Drop>(
@@ -323,7 +368,7 @@ fn look_next<S: Shape, M: Machine<S>, R: Read + Drop>(
     seat: &mut Seat<u8, SeatView>,
     run: &mut ReadRun<R>,
     next: ReadNext,
-) -> Result<ReadNext, Result<R::Answer, Refused>>
+) -> Result<ReadNext, ReadStop>
     requires table { IsAt hand seat.old }
     requires waits { StandsToRead S.Shape M.Machine R.means hand seat.old run.old next }
     ensures { ReadGoesOn S.Shape M.Machine R.means hand.entry 0
@@ -336,30 +381,6 @@ fn look_next<S: Shape, M: Machine<S>, R: Read + Drop>(
             node,
         } => look_on::<S, M, R>(hand, seat, run, children, level, node),
         _ => Ok(next),
-    }
-}
-
-/// Does what comes next, and returns what is done then, or what the read has answered.
-#[inline(always)]
-fn visit_on<S: Shape, M: Machine<S>, R: Read + Drop>(
-    hand: Hand<S>,
-    seat: &mut Seat<u8, SeatView>,
-    run: &mut ReadRun<R>,
-    next: ReadNext,
-) -> Result<ReadNext, Result<R::Answer, Refused>>
-    requires table { IsAt hand seat.old }
-    requires waits { StandsToRead S.Shape M.Machine R.means hand seat.old run.old next }
-    ensures { ReadGoesOn S.Shape M.Machine R.means hand.entry 1
-        seat.old run.old (Ok next) seat.new run.new result }
-{
-    match next {
-        ReadNext::Load(load) => load_on::<S, M, R, ReadLoad>(hand, seat, run, &load),
-        ReadNext::Look {
-            children,
-            level,
-            node,
-        } => look_on::<S, M, R>(hand, seat, run, children, level, node),
-        ReadNext::Validate => Err(validate_on::<S, M, R>(hand, seat, run)),
     }
 }
 
@@ -378,9 +399,20 @@ fn rest<S: Shape, M: Machine<S>, R: Read + Drop>(
         seat.old run.old next seat.new run.new result }
 {
     loop {
-        match visit_on::<S, M, R>(hand, seat, run, next) {
-            Ok(after) => next = after,
-            Err(told) => return told,
+        match next {
+            ReadNext::Load(load) => match load_on::<S, M, R, ReadLoad>(hand, seat, run, &load) {
+                Ok(after) => next = after,
+                Err(stop) => return leave::<S, M, R>(hand, seat, run, stop),
+            },
+            ReadNext::Look {
+                children,
+                level,
+                node,
+            } => match look_on::<S, M, R>(hand, seat, run, children, level, node) {
+                Ok(after) => next = after,
+                Err(stop) => return leave::<S, M, R>(hand, seat, run, stop),
+            },
+            ReadNext::Validate => return validate_on::<S, M, R>(hand, seat, run),
         }
     }
 }
@@ -400,22 +432,22 @@ fn go_on<S: Shape, M: Machine<S>, R: Read + Drop>(
 {
     let mut next = match look_next::<S, M, R>(hand, seat, run, first) {
         Ok(next) => next,
-        Err(told) => return told,
+        Err(stop) => return leave::<S, M, R>(hand, seat, run, stop),
     };
     loop {
         match next {
             ReadNext::Load(ReadLoad::Head { above, node }) => {
                 let behind = match read_node::<S, M, R>(hand, seat, run, above, node) {
                     Ok(behind) => behind,
-                    Err(told) => return told,
+                    Err(stop) => return leave::<S, M, R>(hand, seat, run, stop),
                 };
-                let behind = match pairs_next::<S, M, R>(hand, seat, run, behind) {
+                let behind = match read_pairs::<S, M, R>(hand, seat, run, behind) {
                     Ok(behind) => behind,
-                    Err(told) => return told,
+                    Err(stop) => return leave::<S, M, R>(hand, seat, run, stop),
                 };
                 next = match look_next::<S, M, R>(hand, seat, run, behind) {
                     Ok(after) => after,
-                    Err(told) => return told,
+                    Err(stop) => return leave::<S, M, R>(hand, seat, run, stop),
                 };
             }
             _ => {
@@ -459,6 +491,7 @@ pub(crate) fn call<S: Shape, M: Machine<S>, R: Read + Drop, B: FixedBalance>(
     requires table { IsAt hand seat.old }
     requires begins { (r : Reader (hand_calls S.Shape M.Machine hand) R.means)
         × ReaderBegins r seat.old.me.0.passes run.old }
+    requires mode { hand.layout.now.mode ≡ S.mode }
     requires trie { run.old.trie ≡ B.trie B.the }
     ensures leads { Leads seat.old seat.new (read_left R.means run.old
         (nodes_by run.old.trie (shared_nodes hand.entry.layout.now)))
@@ -467,6 +500,12 @@ pub(crate) fn call<S: Shape, M: Machine<S>, R: Read + Drop, B: FixedBalance>(
         (λ r ps. ReaderEnds r ps run.new result) }
     ensures nothing { ¬ R.means.asks (R.means.call run.old.read) → seat.new ≡ seat.old }
 {
+    let hand = Hand {
+        words: hand.words,
+        layout: hand.layout,
+        number: hand.number,
+        size: S::node_size(),
+    };
     match run.start() {
         ReadBegin::Walk { key, side } => {
             let way = leaf_way(in_trie::<B>());

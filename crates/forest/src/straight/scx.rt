@@ -235,6 +235,7 @@ pub(crate) fn call<S: Shape, M: Machine<S>, T: Shape, L: SnapList>(
         words: hand.words,
         layout: &layout,
         number: hand.number,
+        size: hand.size,
     };
     let start = hand.layout.scx_start(change.scx);
     fill_all::<S, M, T, L>(hand, seat, snaps, change, start);

@@ -65,6 +65,6 @@ pub(crate) fn step<S: Shape, M: Machine<S>>(
         × IsStepBehind p.known (known_of seat.new.me.0.passes) p.number.0 hand.entry.number
         step.kind }
 {
-    let start = hand.layout.start_of(step.word);
+    let start = hand.start_of(step.word);
     step_from::<S, M>(hand, seat, step, start)
 }

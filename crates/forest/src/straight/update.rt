@@ -27,7 +27,7 @@ use template::{Found, Tree};
 /// Makes an edit in `tries` tries out of this share, and returns what is left of that. It is a
 /// function of its own, since the compiler inlines nothing into a function that would grow large,
 /// as one with two edits would. It keeps the update's run to itself, so that the compiler knows
-/// what the run holds after each step.
+/// what the run holds after each step. The size of a node is a constant again.
 #[inline(never)]
 pub(crate) fn make<S: Shape, M: Machine<S>, E: Edit + Copy>(
     hand: Hand<S>,
@@ -37,6 +37,7 @@ pub(crate) fn make<S: Shape, M: Machine<S>, E: Edit + Copy>(
     tries: u32,
 ) -> (Updated, Share)
     requires table { IsAt hand seat.old }
+    requires mode { hand.layout.now.mode ≡ S.mode }
     requires begins { (u : Updater (hand_calls S.Shape M.Machine hand) E.means)
         × UpdaterBegins u seat.old.me.0.passes (new_update edit share tries hand.number) }
     ensures { let new = new_update edit share tries hand.entry.number in
@@ -45,6 +46,12 @@ pub(crate) fn make<S: Shape, M: Machine<S>, E: Edit + Copy>(
         (λ (u : Updater (hand_calls S.Shape M.Machine hand.entry) E.means) ps. UpdaterBegins u ps new)
         (λ u ps. UpdaterLeaves u ps result.0 result.1) }
 {
+    let hand = Hand {
+        words: hand.words,
+        layout: hand.layout,
+        number: hand.number,
+        size: S::node_size(),
+    };
     let mut run = UpdateRun {
         edit,
         share,
@@ -226,6 +233,7 @@ fn change<S: Shape, M: Machine<S>, E: Edit + Copy>(
         words: hand.words,
         layout: &copy,
         number: hand.number,
+        size: hand.size,
     };
     let change = ScxTask {
         scx,

@@ -42,6 +42,7 @@ pub(crate) fn validate<S: Shape, M: Machine<S>, L: SnapList + Copy>(
         words: hand.words,
         layout: &layout,
         number: hand.number,
+        size: hand.size,
     };
     let count = snaps.len();
     let mut asked = 0;

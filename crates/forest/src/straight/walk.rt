@@ -94,7 +94,7 @@ fn end_from<S: Shape, M: Machine<S>>(
     first: Slot,
 ) -> Found
     requires table { IsAt hand seat.old }
-    requires start { start ≡ node_start trail.node }
+    requires start { start ≡ node_start hand.layout.now trail.node }
     requires first { first ≡ goal_slot goal more }
     requires told { HasWalked S.Shape M.Machine hand seat.old
         (way_at way goal trail (WalkAt.More head)) more }
@@ -140,7 +140,7 @@ fn end<S: Shape, M: Machine<S>>(
 ) -> Found
     requires first { (more : ℕ) → goal_slot goal more ≡ Slot.First }
     requires table { IsAt hand seat.old }
-    requires stands { AsksHead trail at start }
+    requires stands { AsksHead hand.layout.now trail at start }
     requires leaf { (head_of word).leaf ≡ true }
     requires told { HasWalked S.Shape M.Machine hand seat.old (way_at way goal trail at) word }
     ensures table { StaysAtTable seat.old seat.new }
@@ -257,7 +257,7 @@ fn pass_by_key<S: Shape, M: Machine<S>>(
     word: u64,
 ) -> Result<(Side, bool), Found>
     requires table { IsAt hand seat.old }
-    requires stands { AsksHead trail at start }
+    requires stands { AsksHead hand.layout.now trail at start }
     requires asks { IsAskedFork goal (head_of word) }
     requires told { HasWalked S.Shape M.Machine hand seat.old (way_at way goal trail at) word }
     ensures table { StaysAtTable seat.old seat.new }
@@ -300,7 +300,7 @@ fn pass<S: Shape, M: Machine<S>>(
 ) -> Result<(Side, bool), Found>
     requires first { (more : ℕ) → goal_slot goal more ≡ Slot.First }
     requires table { IsAt hand seat.old }
-    requires stands { AsksHead trail at start }
+    requires stands { AsksHead hand.layout.now trail at start }
     requires told { HasWalked S.Shape M.Machine hand seat.old (way_at way goal trail at) word }
     ensures table { StaysAtTable seat.old seat.new }
     ensures steps { MatchResult result (λ _. steps_made seat.new ≤ steps_made seat.old + 1)
@@ -331,7 +331,7 @@ fn to_goal_from<S: Shape, M: Machine<S>>(
 ) -> (Found, LastTurns)
     requires slot { (more : ℕ) → goal_slot goal more ≡ Slot.First }
     requires table { IsAt hand seat.old }
-    requires stands { AsksHead first.trail first.at first.start }
+    requires stands { AsksHead hand.layout.now first.trail first.at first.start }
     requires waits { MayWalkFrom S.Shape M.Machine hand seat.old way goal first }
     ensures table { StaysAtTable seat.old seat.new }
     ensures steps { steps_made seat.new ≤ steps_made seat.old
@@ -344,6 +344,7 @@ fn to_goal_from<S: Shape, M: Machine<S>>(
         words: hand.words,
         layout: &layout,
         number: hand.number,
+        size: hand.size,
     };
     let (mut trail, mut start) = (first.trail, first.start);
     let (mut at, mut turns) = (first.at, first.turns);
@@ -366,7 +367,7 @@ fn to_goal_from<S: Shape, M: Machine<S>>(
             side,
             node: NodeNo(child),
         };
-        start = start_for(hand.layout, goal, trail.node);
+        start = start_for(hand, goal, trail.node);
         at = WalkAt::Head { above: head.level };
     }
 }
@@ -404,7 +405,7 @@ pub(crate) fn call_from<S: Shape, M: Machine<S>, E: Edit>(
     first: Reached,
 ) -> (Found, LastTurns)
     requires table { IsAt hand seat.old }
-    requires stands { AsksHead first.trail first.at first.start }
+    requires stands { AsksHead hand.layout.now first.trail first.at first.start }
     requires waits { MayWalkFrom S.Shape M.Machine hand seat.old way goal first }
     ensures table { StaysAtTable seat.old seat.new }
     ensures steps { steps_made seat.new ≤ steps_made seat.old

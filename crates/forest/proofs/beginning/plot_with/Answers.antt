@@ -10,7 +10,7 @@ pub returns-in-Some-with_room-clause-run : goal.returns-in-Some-with_room-clause
 returns-in-Some-with_room-clause-run g c =
     let room = c.in-Some-with_room.ensures in
     begins_run (IsWordOf g.K.WordKey.is_valid g.K.WordKey.word_of) (IsWordOf g.V.WordValue.is_valid g.V.WordValue.word_of) c.in-Some-with_room.layout (map_mode c.args.trie) c.in_ok-words.words.items c.in_ok-planting.planting c.in_ok-planting.ensures (room.mode ∙ c.requires.mode)
-    (let count = c.count.ensures in let some = room.room.0 in omega (arith, count, some)) c.in_ok-words.ensures.typed
+    (let count = c.count.ensures in let some = room.planted in omega (arith, count, some)) c.in_ok-words.ensures.typed
 
 -- what the passes have is at most this
 shares_fit : (p n : ℕ) → p ≤ 32 → n ≤ 32768 → p * n ≤ 1048576
@@ -19,7 +19,7 @@ shares_fit p n few small = let a : p * n ≤ p * 32768 = mul-le-mul_left p small
 pub returns-in-None-clause-refused : goal.returns-in-None-clause-refused
 returns-in-None-clause-refused g c =
     let lay = c.args.layout.now in
-    let shares = shares_fit lay.passes lay.nodes lay.passes_fit lay.nodes_fit in
+    let shares = shares_fit lay.passes lay.nodes lay.passes_fit c.requires.shares.0 in
     let full = c.with_room.ensures.full (subst IsNone (sym c.in-None.is) refl) in
     let count = c.count.ensures in
     let same : length c.in_ok-words.words.items ≡ length (map (word_pair g.K.WordKey.word_of g.V.WordValue.word_of) c.args.pairs.now) = ap length c.in_ok-words.ensures.words in (

@@ -1,7 +1,9 @@
 use Rattle.resting.proofs.Looks.{looked}
 use Rattle.resting.proofs.Periods.{dead_out}
 use Rattle.resting.proofs.Removed.{removed_after, removed_final, removed_seen}
+use Rattle.resting.proofs.StaysUnborn.{unborn_out}
 use Rattle.resting.proofs.Unborn.{aborted_out}
+use Rattle.resting.proofs.Unnamed.{unnamed_out}
 use Rattle.resting.proofs.laws.dead_comes_back.Goals as goal
 
 pub returns-clause-marked : goal.returns-clause-marked
@@ -18,6 +20,12 @@ returns-clause-dead g = dead_out
 
 pub returns-clause-aborted : goal.returns-clause-aborted
 returns-clause-aborted g = aborted_out
+
+pub returns-clause-unborn : goal.returns-clause-unborn
+returns-clause-unborn g = unborn_out
+
+pub returns-clause-unnamed : goal.returns-clause-unnamed
+returns-clause-unnamed g = unnamed_out
 
 pub returns-clause-look : goal.returns-clause-look
 returns-clause-look g = looked

@@ -102,7 +102,7 @@ module _ (c : Call) (h : History) (sibling : Snap) (read : Reading) (n_node : �
       let deep : level (value h) z_node < 67 + length (taken_nodes h) = no_deeper c.layout.mode (length (taken_nodes h)) (level (value h) z_node) (stood_depth c.layout h z_node run in_tree) in
       let few : length (taken_nodes h) ≤ most_taken c.layout = taken_few c.layout h run.1.lawful in
       let planted : c.layout.planted ≤ 67108864 = c.layout.planted_fit in
-      let most : c.layout.passes * c.layout.nodes ≤ 32 * 32768 = mul-le c.layout.passes c.layout.nodes 32 32768 c.layout.passes_fit c.layout.nodes_fit in
+      let most : c.layout.passes * c.layout.nodes ≤ 32 * 1125899906842624 = mul-le c.layout.passes c.layout.nodes 32 1125899906842624 c.layout.passes_fit c.layout.nodes_fit in
       omega (arith, deep, few, planted, most)
 
   is_head : read.head ≡ Some (head_of w)

@@ -1,5 +1,4 @@
 use Rattle.std.proofs.Common.{◌≡◌, ℕ, ◌+◌, ◌*◌, true, sym, ◌∙◌, subst}
-use Rattle.std.specs.Prelude.{unwrap_or}
 use Rattle.arena.specs.Machines.{begun_at}
 use Rattle.histories.specs.Common.{Turn, Ask}
 use Rattle.template.specs.Walk.Steps.{steps_left}

@@ -10,19 +10,19 @@ pub node_start-start-requires : goal.node_start-start-requires
 node_start-start-requires g c = let r = c.requires.tries in rw c.at.ensures (hosted_word r.0 _ g.met.M.Machine.lawful _ _ r.1)
 
 pub fill-next-requires-clause-fresh : goal.fill-next-requires-clause-fresh
-fill-next-requires-clause-fresh g c = (rw c.at.ensures at c.node_start-start.ensures, c.piece-piece.ensures)
+fill-next-requires-clause-fresh g c = (rw c.at.ensures at c.node_start-start.ensures.start, c.piece-piece.ensures)
 
 pub fill-next-requires-clause-fills : goal.fill-next-requires-clause-fills
 fill-next-requires-clause-fills g c = c.requires.tries
 
 pub fill_more-next-requires-clause-fresh : goal.fill_more-next-requires-clause-fresh
-fill_more-next-requires-clause-fresh g c = (rw c.at.ensures at c.node_start-start.ensures, c.piece-piece.ensures)
+fill_more-next-requires-clause-fresh g c = (rw c.at.ensures at c.node_start-start.ensures.start, c.piece-piece.ensures)
 
 pub fill_more-next-requires-clause-fills : goal.fill_more-next-requires-clause-fills
 fill_more-next-requires-clause-fills g c = let r = c.requires.tries in (r.0, c.fill-next.ensures.goes_on.to r.0 r.1)
 
 pub fill_pairs-next-requires-clause-fresh : goal.fill_pairs-next-requires-clause-fresh
-fill_pairs-next-requires-clause-fresh g c = (rw c.at.ensures at c.node_start-start.ensures, c.piece-piece.ensures)
+fill_pairs-next-requires-clause-fresh g c = (rw c.at.ensures at c.node_start-start.ensures.start, c.piece-piece.ensures)
 
 pub fill_pairs-next-requires-clause-fills : goal.fill_pairs-next-requires-clause-fills
 fill_pairs-next-requires-clause-fills g c = let r = c.requires.tries in (r.0, (fills_further c.fill-next.ensures.goes_on c.fill_more-next.ensures.goes_on).to r.0 r.1)
@@ -34,7 +34,7 @@ loop-next-init g c = record {
 }
 
 pub fill-next-requires-in-Some-clause-fresh : goal.fill-next-requires-in-Some-clause-fresh
-fill-next-requires-in-Some-clause-fresh g c = (rw c.at.ensures at c.node_start-start.ensures, c.piece-piece.ensures)
+fill-next-requires-in-Some-clause-fresh g c = (rw c.at.ensures at c.node_start-start.ensures.start, c.piece-piece.ensures)
 
 pub fill-next-requires-in-Some-clause-fills : goal.fill-next-requires-in-Some-clause-fills
 fill-next-requires-in-Some-clause-fills g c = let r = c.requires.tries in (r.0, rw c.in-Some.is at (c.loop-next.invariant.goes_on.to r.0 r.1))

@@ -13,7 +13,7 @@ abbrev pub invariant-loop-way : goal.invariant-loop-way
 invariant-loop-way g l = record {
   here : (l.seat.table_id ≡ l.fn.seat.table_id) × (l.seat.me.1 ≡ l.fn.seat.me.1);
   loads : LoadsHead l.place.at;
-  start : l.place.start ≡ node_start l.place.trail.node;
+  start : l.place.start ≡ node_start l.fn.hand.layout.now l.place.trail.node;
   nearer : walk_left l.place.at (room l.way (shared_nodes l.fn.hand.layout.now)) ≤ walk_left l.fn.first.at (room l.way (shared_nodes l.fn.hand.layout.now));
   steps : seat_steps l.seat.me.0.passes + walk_left l.place.at (room l.way (shared_nodes l.fn.hand.layout.now)) ≤ seat_steps l.fn.seat.me.0.passes + walk_left l.fn.first.at (room l.way (shared_nodes l.fn.hand.layout.now));
   told : (w : Walker (calls g.S.Shape g.M.Machine l.fn.hand.layout.now l.fn.hand.number))

@@ -15,7 +15,7 @@ abbrev pub invariant-loop-side : goal.invariant-loop-side
 invariant-loop-side g l = record {
   here : (l.seat.table_id ≡ l.fn.seat.table_id) × (l.seat.me.1 ≡ l.fn.seat.me.1);
   loads : LoadsHead l.place.at;
-  start : l.place.start ≡ node_start l.place.trail.node;
+  start : l.place.start ≡ node_start l.fn.hand.layout.now l.place.trail.node;
   steps : seat_steps l.seat.me.0.passes + suc (walk_left l.place.at (room l.way (shared_nodes l.fn.hand.layout.now))) ≤ seat_steps l.fn.seat.me.0.passes + suc (walk_left l.fn.first.at (room l.way (shared_nodes l.fn.hand.layout.now)));
   waits : (w : Walker (calls g.S.Shape g.M.Machine l.fn.hand.layout.now l.fn.hand.number))
       → WalkerIsAt w l.fn.seat.me.0.passes l.way (End Right) l.fn.first

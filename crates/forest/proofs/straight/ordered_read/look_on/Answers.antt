@@ -1,4 +1,4 @@
-use Rattle.std.proofs.Common.{◌∙◌, sym, ℕ, ◌+◌, ◌-◌, ◌*◌, ◌<◌, length, subst, arith}
+use Rattle.std.proofs.Common.{sym, ℕ, ◌+◌, ◌-◌, ◌*◌, ◌<◌, length, subst, arith}
 use Rattle.template.specs.Balance.{nodes_by}
 use Rattle.order.specs.Places.{RunComesNearer, placed}
 use Rattle.order.specs.Steps.{read_left, tries_left}
@@ -42,13 +42,10 @@ returns-in-Err-looked g c = record {
   steps = (let few = c.look.ensures.steps in omega (arith, few));
 }
 
-pub look_again-told-requires-clause-waits : goal.look_again-told-requires-clause-waits
-look_again-told-requires-clause-waits g c = let w = c.requires.waits in (w.0, looks_again w.0 c.args.run.now c.args.children c.args.level _ c.args.node c.in-Err.marked c.in-Err.scx (c.in-Err.ensures.waits (looker w.0 c.args.run.now c.args.children c.args.level) (begins_look w.0 c.args.run.now c.args.children c.args.level _ c.args.node w.1)))
-
 pub returns-in-Err : goal.returns-in-Err
 returns-in-Err g c = record {
-  table = (c.look_again-told.ensures.table.0 ∙ c.look.ensures.table.0, c.look_again-told.ensures.table.1 ∙ c.look.ensures.table.1);
-  to = λ r x. c.look_again-told.ensures.to r (looks_again r c.args.run.now c.args.children c.args.level _ c.args.node c.in-Err.marked c.in-Err.scx (c.in-Err.ensures.waits (looker r c.args.run.now c.args.children c.args.level) (begins_look r c.args.run.now c.args.children c.args.level _ c.args.node x)));
+  table = c.look.ensures.table;
+  to = λ r x. looks_again r c.args.run.now c.args.children c.args.level _ c.args.node c.in-Err.marked c.in-Err.scx (c.in-Err.ensures.waits (looker r c.args.run.now c.args.children c.args.level) (begins_look r c.args.run.now c.args.children c.args.level _ c.args.node x));
   nearer = omega arith;
-  steps = (let few = c.look.ensures.steps in let rest = c.look_again-told.ensures.steps in omega (arith, few, rest));
+  steps = (let few = c.look.ensures.steps in omega (arith, few));
 }

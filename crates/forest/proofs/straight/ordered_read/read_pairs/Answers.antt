@@ -1,22 +1,20 @@
-use Rattle.std.proofs.Common.{◌∙◌, refl, ap, arith}
-use Rattle.order.specs.declared.read.ReadNext.TheVariants.{Load}
-use Rattle.forest.proofs.StraightReading.{reads_as, reads_on, reads_then}
+use Rattle.forest.proofs.StraightReading.{reads_on}
 use Rattle.forest.proofs.straight.ordered_read.read_pairs.Goals as goal
 
-pub loop-next-init : goal.loop-next-init
-loop-next-init g c = record { goes_on = reads_as refl }
+pub read_next_pair-requires-2-clause-waits : goal.read_next_pair-requires-2-clause-waits
+read_next_pair-requires-2-clause-waits g c = let w = c.requires.waits in (w.0, c.in-Ok.ensures.to w.0 w.1)
 
-pub read_pair-requires-clause-waits : goal.read_pair-requires-clause-waits
-read_pair-requires-clause-waits g c = let w = c.requires.waits in (w.0, c.loop-next.invariant.goes_on.to w.0 w.1)
+pub returns-in-Err-read_next_pair : goal.returns-in-Err-read_next_pair
+returns-in-Err-read_next_pair g c = reads_on c.in-Ok.ensures c.in-Err-read_next_pair.ensures
 
-pub returns-in-Err : goal.returns-in-Err
-returns-in-Err g c = reads_then c.loop-next.invariant.goes_on c.in-Err.ensures
+pub read_next_pair-requires-3-clause-waits : goal.read_next_pair-requires-3-clause-waits
+read_next_pair-requires-3-clause-waits g c = let w = c.requires.waits in (w.0, (reads_on c.in-Ok.ensures c.in-Ok-read_next_pair.ensures).to w.0 w.1)
 
-pub loop-next-preserved : goal.loop-next-preserved
-loop-next-preserved g c = record { goes_on = reads_on c.loop-next.invariant.goes_on (reads_on c.in-Ok.ensures (reads_as (c.in-Load-Pair.is ∙ ap Load (rw c.in-Load-Pair.is at c.in-Load-Pair.field-0-is)))) }
+pub returns-in-Err-read_next_pair-2 : goal.returns-in-Err-read_next_pair-2
+returns-in-Err-read_next_pair-2 g c = reads_on c.in-Ok.ensures (reads_on c.in-Ok-read_next_pair.ensures c.in-Err-read_next_pair-2.ensures)
 
-pub loop-next-smaller : goal.loop-next-smaller
-loop-next-smaller g c = let n = (reads_on c.in-Ok.ensures (reads_as (c.in-Load-Pair.is ∙ ap Load (rw c.in-Load-Pair.is at c.in-Load-Pair.field-0-is)))).nearer in omega (arith, n)
+pub read_next_pair-requires-4-clause-waits : goal.read_next_pair-requires-4-clause-waits
+read_next_pair-requires-4-clause-waits g c = let w = c.requires.waits in (w.0, (reads_on c.in-Ok.ensures (reads_on c.in-Ok-read_next_pair.ensures c.in-Ok-read_next_pair-2.ensures)).to w.0 w.1)
 
-pub returns-in_default : goal.returns-in_default
-returns-in_default g c = reads_then c.loop-next.invariant.goes_on c.in-Ok.ensures
+pub returns : goal.returns
+returns g c = reads_on c.in-Ok.ensures (reads_on c.in-Ok-read_next_pair.ensures (reads_on c.in-Ok-read_next_pair-2.ensures c.read_next_pair-4.ensures))

@@ -6,10 +6,10 @@ use Rattle.order.specs.Places.{placed}
 use Rattle.order.specs.Steps.{read_left}
 use Rattle.forest.proofs.straight.ordered_read.rest.Given as goal
 
-abbrev pub invariant-loop-after : goal.invariant-loop-after
-invariant-loop-after g l = record {
+abbrev pub invariant-loop-next : goal.invariant-loop-next
+invariant-loop-next g l = record {
   goes_on : ReadGoesOn g.S.Shape g.M.Machine g.R.Read.means l.hand 0 l.fn.seat l.fn.run (Ok l.fn.next) l.seat l.run (Ok l.next);
 }
 
-abbrev pub decreases-loop-after : goal.decreases-loop-after
-decreases-loop-after g l = read_left g.R.Read.means (placed l.run l.next) (nodes_by l.run.trie (shared_nodes l.hand.layout.now))
+abbrev pub decreases-loop-next : goal.decreases-loop-next
+decreases-loop-next g l = read_left g.R.Read.means (placed l.run l.next) (nodes_by l.run.trie (shared_nodes l.hand.layout.now))

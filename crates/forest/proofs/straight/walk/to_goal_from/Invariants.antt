@@ -13,7 +13,7 @@ abbrev pub invariant-loop-to : goal.invariant-loop-to
 invariant-loop-to g l = record {
   here : (l.seat.table_id ≡ l.fn.seat.table_id) × (l.seat.me.1 ≡ l.fn.seat.me.1);
   place : LoadsHead l.at;
-  start : l.start ≡ node_start l.trail.node;
+  start : l.start ≡ node_start l.fn.hand.layout.now l.trail.node;
   steps : seat_steps l.seat.me.0.passes + suc (walk_left l.at (room l.way (shared_nodes l.fn.hand.layout.now))) ≤ seat_steps l.fn.seat.me.0.passes + suc (walk_left l.fn.first.at (room l.way (shared_nodes l.fn.hand.layout.now)));
   waits : (w : Walker (calls g.S.Shape g.M.Machine l.fn.hand.layout.now l.fn.hand.number))
       → WalkerIsAt w l.fn.seat.me.0.passes l.way l.goal l.fn.first
