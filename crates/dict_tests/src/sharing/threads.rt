@@ -35,8 +35,9 @@ const WINDOW: u64 = 20;
 /// How many threads put in the same keys.
 const RIVALS: u64 = 8;
 
-/// How many jobs a scheduler's thread puts in in a round.
-const JOBS: u64 = 8;
+/// How many jobs a scheduler's thread puts in in a round: so few that its share lasts, with all the
+/// tries that it loses to the other.
+const JOBS: u64 = 4;
 
 /// In so many of its first rounds it takes none out.
 const FILLING: u64 = 50;
@@ -45,7 +46,7 @@ const FILLING: u64 = 50;
 const WAITING: usize = 2 * (JOBS * FILLING) as usize;
 
 /// So many races of two schedulers' threads make a million calls.
-const SCHEDULES: usize = 33;
+const SCHEDULES: usize = 65;
 
 /// What a thread does in each of its rounds.
 #[derive(Clone, Copy)]
@@ -592,7 +593,8 @@ fn raced<R: Threads + Sync, B: FixedBalance + Send + Sync>(
         3..=8 => 20_000,
         _ => 2_000,
     };
-    let Ok((forest, passes)) = Forest::<Numbers>::new(alloc, limits(threads, share, share)) else {
+    let Ok((forest, passes)) = Forest::<Numbers<B>>::new(alloc, limits(threads, share, share))
+    else {
         return Err("no forest".into());
     };
     let (passes, _) = worked(rt, alloc, &forest, works[0], passes)?;
