@@ -38,7 +38,7 @@ use Rattle.forest.proofs.Blames.{blamed_later, blamed_on_map}
 use Rattle.forest.proofs.Versions.{told_says, lost_says, full_says, nothing_says}
 use Rattle.forest.proofs.Calls.{course_keeps}
 use Rattle.forest.proofs.Entered.{HasEnded, ended, left_with, ended_pass, ended_goes_on, rests_between}
-use Rattle.forest.proofs.Passes.{call_of}
+use Rattle.forest.proofs.Passes.{begun_with, call_of}
 
 -- Shares
 
@@ -87,13 +87,7 @@ module _ {K V : Type 0} (valid_key : K → Type 0) (key : K → ℕ) (valid_valu
 
   -- a call that has not begun may begin, with the pass's share
   pub dict_starts : {trie : Bool} {T : Type 0} (p : Inside T) (x : IsPass allows (map_mode trie) p) (m : DictRun K V) → trie_in m.run ≡ trie → IsTypedCall keys values (call_in m.run) → IsUnbegun m.run m.tries (taken_of (pass_view p)) → IsFewCall (call_in m.run) → share_of m.run ≡ p.share → CallBegins allows (DictIsReady keys values) (call_of p x (taken_of (pass_view p))) p.seat.me.0.passes m
-  dict_starts p x m tree typed unbegun few share = record {
-    planting = planting_of p.seat.me.0.passes;
-    known = known_of p.seat.me.0.passes;
-    is = x.seat;
-    sound = x.sound;
-    so = (refl, dict_begins keys values m (call_of p x (taken_of (pass_view p))) (x.is_mode ∙ ap map_mode (sym tree)) x.sound typed unbegun few (rw share rests));
-  }
+  dict_starts p x m tree typed unbegun few share = begun_with p x (taken_of (pass_view p)) (dict_begins keys values m (call_of p x (taken_of (pass_view p))) (x.is_mode ∙ ap map_mode (sym tree)) x.sound typed unbegun few (rw share rests))
     where
       rests : RestsWith (call_of p x (taken_of (pass_view p))) (call_of p x (taken_of (pass_view p))).start p.share
       rests = record { share = x.rest.share; over = all_over p.layout _ p.number.0 p.share p.share.next_node p.share.next_scx x.rest.share x.rest.over }

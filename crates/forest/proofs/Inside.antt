@@ -1,8 +1,9 @@
 -- From place to place of a machine inside another, and machines inside these.
-use Rattle.std.proofs.Common.{ℕ, List, refl, subst}
+use Rattle.std.proofs.Common.{ℕ, List, Some, refl, subst}
 use Rattle.histories.specs.Common.{Layout, Step, History, ◌⊳◌, IsWord, Call, IsRun, row_of}
 use Rattle.forest.specs.declared.view.SeatedPass.{SeatedPass}
 use Rattle.forest.specs.CallKinds.{Calls}
+use Rattle.forest.specs.Hosts.{Host, InnerCall}
 use Rattle.forest.specs.Inside.{Inner, Inside, InnerIsTold, InnerWaits}
 use Rattle.forest.specs.Traces.{goes_on}
 use Rattle.forest.proofs.Advances.{called_so, word_of}
@@ -34,4 +35,22 @@ compose k n = record {
   tells = λ m h v run x. let d = k.tells (n.with_run m) h v run x in n.tells m h v d.0 d.1;
   turns = λ old now h v s goes turn run x. k.turns (n.with_run old) (n.with_run now) h v s (n.stays old now v goes) (n.turns old now h v s goes turn) run x;
   stays = λ old now v goes. k.stays (n.with_run old) (n.with_run now) v (n.stays old now v goes);
+}
+
+-- A machine inside the inner machine of a host, which is at such a place with it: what that gets, it
+-- gets; that continues from place to place; and what it waits for, that does.
+abbrev pub inside_host : {M N A P : Type 0} {o : Calls M} {c : InnerCall N A} {j : Inner P} (k : Host o c) (at : P → N)
+    → ((m : P) (h : History) (v : ℕ) → IsRun o.allows k.call.layout h → c.ready (at m) k.call h (Some v) → (d : j.Context) × j.told d m h v)
+    → ((old now : P) (v : ℕ) → j.goes old v now → c.goes (at old) (at now))
+    → ((old now : P) (h : History) (v : ℕ) (s : Step) → j.goes old v now → ((d : j.Context) → j.told d old h v → j.waits d now h s) → IsRun o.allows k.call.layout h → c.ready (at old) k.call h (Some v) → c.waits (at now) k.call h s)
+    → Inside o j
+inside_host k at tells stays turns = record {
+  call = k.call;
+  is_layout = k.is_layout;
+  is_number = k.is_number;
+  first = k.first;
+  with_run = λ m. k.with_run (at m);
+  tells = λ m h v run x. tells m h v run (k.tells (at m) h (Some v) x);
+  turns = λ old now h v s goes turn run x. k.turns (at old) (at now) h (Some v) s (stays old now v goes) x (turns old now h v s goes turn run (k.tells (at old) h (Some v) x));
+  stays = λ old now v goes. k.stays (at old) (at now) (stays old now v goes);
 }

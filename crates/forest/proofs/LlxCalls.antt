@@ -7,7 +7,7 @@ use Rattle.prims.proofs.Lemmas.{llx_fills_not, ready_at_start, cell_opened, fina
 use Rattle.prims.specs.declared.llx.LlxAt.TheVariants.{Start}
 use Rattle.forest.specs.declared.view.SeatView.{SeatView}
 use Rattle.forest.specs.declared.pass.Pass.TheInside.{Inside}
-use Rattle.forest.specs.Traces.{Trace, HoldsForCall, known_of, seat_steps, planting_of, run_at}
+use Rattle.forest.specs.Traces.{Trace, HoldsForCall, seat_steps, run_at}
 use Rattle.forest.specs.Passes.{HasGoneOn, HasTakenNothing, HoldsOfOwn, LlxSays, IsFinalizedAnswer, blamed_by, run_of, seen_of}
 use Rattle.forest.specs.PassInvariant.{pass_view, IsPass}
 use Rattle.forest.specs.StepKinds.{HasFilledNothing}
@@ -16,17 +16,12 @@ use Rattle.forest.specs.TableRule.{history_of}
 use Rattle.forest.proofs.Called.{course_holds}
 use Rattle.forest.proofs.Calls.{course_keeps}
 use Rattle.forest.proofs.Blames.{blamed_more}
-use Rattle.forest.proofs.Passes.{HasOnlyLoaded, called_pass, called_goes_on, called_nothing, call_of, seated, called}
+use Rattle.forest.proofs.Passes.{HasOnlyLoaded, begun_with, called_pass, called_goes_on, called_nothing, call_of, seated, called}
 
 -- a run of a cell that has not begun may begin
 pub llx_begins : {allows : Layout → History → ℕ → Type 0} {T : Type 0} (p : Inside T) (x : IsPass allows Records p) (number : ℕ) (m : LlxRun) → m.at ≡ Start → m.node.0 ≤ 8 → HoldsForCall allows p.seat.me.0.passes (call_of p x number) (λ h. ((call_of p x number).start ≡ h) × LlxIsReady allows m (call_of p x number) h None)
-llx_begins {allows} p x number m start small = record {
-  planting = planting_of p.seat.me.0.passes;
-  known = known_of p.seat.me.0.passes;
-  is = x.seat;
-  sound = x.sound;
-  so = (refl, ready_at_start allows m (call_of p x number) _ refl start (cell_opened p.layout _ m.node.0 x.is_mode small) (all_idle p.layout _ p.number.0 p.share _ _ x.sound.lawful x.rest.share x.rest.over));
-}
+llx_begins {allows} p x number m start small = begun_with p x number {P = λ h. LlxIsReady allows m (call_of p x number) h None}
+    (ready_at_start allows m (call_of p x number) _ refl start (cell_opened p.layout _ m.node.0 x.is_mode small) (all_idle p.layout _ p.number.0 p.share _ _ x.sound.lawful x.rest.share x.rest.over))
 
 -- what its answer says
 abbrev pub Answered : {allows : Layout → History → ℕ → Type 0} {mode : Mode} {T : Type 0} (p : Inside T) → IsPass allows mode p → ℕ → NodeNo → Llx → History → Type 0
@@ -65,15 +60,8 @@ module _ {allows : Layout → History → ℕ → Type 0} {mode : Mode} {T : Typ
       go (Finalized n u) z = called_pass p x s number _ bare z
       go (Fail n u) z =
           let w = called_pass p x s number _ bare z in
-          record {
-            seat = w.seat;
-            bare = w.bare;
-            is_mode = w.is_mode;
-            is_pass = w.is_pass;
-            sound = w.sound;
-            rest = w.rest;
-            blamed = blamed_more (pass_view p) (pass_view (heard (u.0 ∷ p.blamed))) node.0 u.0 refl refl refl w.sound.lawful z.goes.since (llx_says (u.0 ∷ p.blamed) (Fail n u) z).1 x.blamed;
-          }
+          let more = blamed_more (pass_view p) (pass_view (heard (u.0 ∷ p.blamed))) node.0 u.0 refl refl refl w.sound.lawful z.goes.since (llx_says (u.0 ∷ p.blamed) (Fail n u) z).1 x.blamed in
+          record { seat = w.seat; bare = w.bare; is_mode = w.is_mode; is_pass = w.is_pass; sound = w.sound; rest = w.rest; blamed = more }
 
   -- its run is extended, and it has taken nothing
   pub llx_goes_on : (a : Llx) (blamed : List ℕ) (left most : ℕ) → blamed ≡ blamed_by a p.blamed → s.table_id ≡ p.seat.table_id → s.me.1 ≡ p.seat.me.1 → HasOnlyLoaded allows p s number (Answered p x number node a) → seat_steps s.me.0.passes ≤ seat_steps p.seat.me.0.passes + left → left ≤ most → HasGoneOn allows (pass_view p) (pass_view (heard blamed)) number most (blamed_by a p.blamed)

@@ -34,10 +34,7 @@ module _ {K V B : Type 0} (valid_key : K → Type 0) (key : K → ℕ) (valid_va
       pass = record { seat = refl; bare = refl; is_mode = x.is_mode; is_pass = x.is_pass; sound = x.sound; rest = x.rest; blamed = x.blamed };
       table = refl;
       bare = x.bare;
-      number = refl;
-      layout = refl;
-      call = named;
-      blamed = refl;
+      kept = record { number = refl; layout = refl; call = named; blamed = refl };
       first = first;
       stands = y;
       since = let e = none_made in omega (arith, e);

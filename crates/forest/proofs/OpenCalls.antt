@@ -37,10 +37,10 @@ module _ {K V B : Type 0} (valid_key : K → Type 0) (key : K → ℕ) (valid_va
     back = record { number = o.number; layout = o.layout; share = left; seat = o.seat; blamed = blamed; shape = record {} }
 
     number_is : o.number ≡ record { 0 = o.began.value.number }
-    number_is = ap numbered x.number
+    number_is = ap numbered x.kept.number
 
     back_is : back ≡ behind valid_key key valid_value value_word trie was x.pass o.seat o.run reply
-    back_is = rw (number_is, x.layout, gives, blames, x.blamed) refl
+    back_is = rw (number_is, x.kept.layout, gives, blames, x.kept.blamed) refl
 
     pub open_pass : IsPass (TypedAllows (IsWordOf valid_key key) (IsWordOf valid_value value_word)) (map_mode trie) back
     open_pass = subst (λ p. IsPass (TypedAllows (IsWordOf valid_key key) (IsWordOf valid_value value_word)) (map_mode trie) p) (sym back_is) (dict_pass valid_key key valid_value value_word trie was x.pass o.seat o.run reply (ended valid_key key valid_value value_word trie was x.pass o.seat x.first o.run reply ends) x.bare)
@@ -52,4 +52,4 @@ module _ {K V B : Type 0} (valid_key : K → Type 0) (key : K → ℕ) (valid_va
     -- and it says what a whole call says
     pub open_called : (f : Ground) → IsOf f o.began.value → o.run.tries ≡ f.tries → HasCalledIn trie valid_key key valid_value value_word f o.began.value (pass_view back) (call_in o.run.run) reply
     open_called f of tries = subst (λ p. HasCalledIn trie valid_key key valid_value value_word f o.began.value (pass_view p) (call_in o.run.run) reply) (sym back_is)
-        (says valid_key key valid_value value_word trie was x.pass o.seat x.first o.run reply ends f of (call_in o.run.run) refl tries x.table (let z = rw (x.layout, of.1, tries) at x.steps in omega (arith, z)) x.nothing)
+        (says valid_key key valid_value value_word trie was x.pass o.seat x.first o.run reply ends f of (call_in o.run.run) refl tries x.table (let z = rw (x.kept.layout, of.1, tries) at x.steps in omega (arith, z)) x.nothing)

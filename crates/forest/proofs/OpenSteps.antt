@@ -41,7 +41,7 @@ module _ {K V : Type 0} (valid_key : K → Type 0) (key : K → ℕ) (valid_valu
 
   -- one that has answered is over
   pub is_answered : {B : Type 0} {trie : Bool} (o : Inside K V B) → IsOpen valid_key key valid_value value trie o → (reply : Reply K V) → o.turn ≡ Done reply → IsOpen valid_key key valid_value value trie (record o { over = true })
-  is_answered o x reply is = record { pass = x.pass; table = x.table; bare = x.bare; number = x.number; layout = x.layout; call = x.call; blamed = x.blamed; first = x.first; stands = x.stands; since = x.since; steps = x.steps; over = λ e. rw is tt; none = λ e. absurd (differ e); nothing = x.nothing }
+  is_answered o x reply is = record { pass = x.pass; table = x.table; bare = x.bare; kept = x.kept; first = x.first; stands = x.stands; since = x.since; steps = x.steps; over = λ e. rw is tt; none = λ e. absurd (differ e); nothing = x.nothing }
 
   module _ {B : Type 0} {trie : Bool} (o : Inside K V B) (x : IsOpen valid_key key valid_value value trie o) (step : Step) (is : o.turn ≡ Ask step) where
     -- the machine waits for this step
@@ -54,12 +54,12 @@ module _ {K V : Type 0} (valid_key : K → Type 0) (key : K → ℕ) (valid_valu
 
     -- the call, of its own machine
     abbrev pub open_host : Host (dict_calls valid_key key valid_value value o.layout o.call) (own_call (dict_calls valid_key key valid_value value o.layout o.call) (DictAnswers valid_key key valid_value value))
-    open_host = own (dict_calls valid_key key valid_value value o.layout o.call) (DictAnswers valid_key key valid_value value) (next_call o.began.value x.pass.is_pass) (sym x.layout) (sym x.call) x.first
+    open_host = own (dict_calls valid_key key valid_value value o.layout o.call) (DictAnswers valid_key key valid_value value) (next_call o.began.value x.pass.is_pass) (sym x.kept.layout) (sym x.kept.call) x.first
 
     module _ (s : Seat ℕ SeatView) (m : DictRun K V) (turn : Turn (Reply K V)) (table : s.table_id ≡ o.seat.table_id) (bare : s.me.1 ≡ o.seat.me.1) (one : seat_steps s.me.0.passes ≡ suc (seat_steps o.seat.me.0.passes))
         (stands : (k : Host (dict_calls valid_key key valid_value value o.layout o.call) (own_call (dict_calls valid_key key valid_value value o.layout o.call) (DictAnswers valid_key key valid_value value))) → HostedWaits k o.seat.me.0.passes o.run step → HostedStands k s.me.0.passes m turn) where
       stood : DictStands (next_call o.began.value x.pass.is_pass) s.me.0.passes x.first m turn
-      stood = own_stands (dict_calls valid_key key valid_value value o.layout o.call) (DictAnswers valid_key key valid_value value) (next_call o.began.value x.pass.is_pass) (sym x.layout) (sym x.call) x.first s.me.0.passes m turn (stands open_host open_waits)
+      stood = own_stands (dict_calls valid_key key valid_value value o.layout o.call) (DictAnswers valid_key key valid_value value) (next_call o.began.value x.pass.is_pass) (sym x.kept.layout) (sym x.kept.call) x.first s.me.0.passes m turn (stands open_host open_waits)
 
       -- it is of the same call as before
       pub same_call : IsSameCall valid_key key valid_value value o.run m
@@ -86,10 +86,7 @@ module _ {K V : Type 0} (valid_key : K → Type 0) (key : K → ℕ) (valid_valu
           pass = record { seat = refl; bare = refl; is_mode = x.pass.is_mode; is_pass = x.pass.is_pass; sound = x.pass.sound; rest = x.pass.rest; blamed = x.pass.blamed };
           table = table ∙ x.table;
           bare = bare ∙ x.bare;
-          number = x.number;
-          layout = x.layout;
-          call = x.call;
-          blamed = x.blamed;
+          kept = x.kept;
           first = x.first;
           stands = stood;
           since = let z = x.since in omega (arith, one, z);

@@ -40,6 +40,10 @@ layout_of e q of = ap (λ (s : PassView). s.layout) e ∙ of.1 ∙ sym (ap (λ (
 abbrev pub call_of : {allows : Layout → History → ℕ → Type 0} {mode : Mode} {T : Type 0} (p : Inside T) → IsPass allows mode p → ℕ → Call
 call_of p x number = record { layout = p.layout; pass = p.number.0; is_pass = x.is_pass; number = number; start = run_at p.seat.me.0.passes }
 
+-- a call of it begins where P holds of what it knows
+pub begun_with : {allows : Layout → History → ℕ → Type 0} {mode : Mode} {T : Type 0} (p : Inside T) (x : IsPass allows mode p) (number : ℕ) {P : History → Type 0} → P (run_at p.seat.me.0.passes) → HoldsForCall allows p.seat.me.0.passes (call_of p x number) (λ h. ((call_of p x number).start ≡ h) × P h)
+begun_with p x number holds = record { planting = planting_of p.seat.me.0.passes; known = known_of p.seat.me.0.passes; is = x.seat; sound = x.sound; so = (refl, holds) }
+
 -- the pass with its seat as it is now
 abbrev pub seated : {T : Type 0} → Inside T → Seat ℕ SeatView → Inside T
 seated p s = record p { seat = s }

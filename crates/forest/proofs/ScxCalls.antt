@@ -22,7 +22,7 @@ use Rattle.forest.specs.PassInvariant.{pass_view, IsPass}
 use Rattle.forest.proofs.Frames.{CarriesOn}
 use Rattle.forest.proofs.Calls.{HasHand, course_keeps, put_goes, put_rests}
 use Rattle.forest.proofs.Called.{course_calls}
-use Rattle.forest.proofs.Passes.{call_of, can_use_later, steps_are}
+use Rattle.forest.proofs.Passes.{begun_with, call_of, can_use_later, steps_are}
 use Rattle.forest.proofs.Blames.{blamed_later}
 use Rattle.forest.proofs.VlxCalls.{each_at}
 use Rattle.forest.proofs.Advances.{seat_back}
@@ -111,20 +111,11 @@ module _ {T : Type 0} (p : Inside T) (x : IsPass AllowsAll Records p) (some_node
   free = next_free p.layout start p.number.0 p.share _ _ x.rest.share own_scx
 
   pub put_begins : (m : PutRun) → Is m → m.at ≡ PutStart → m.scx.at ≡ ScxStart → Each (CanUse (pass_view p)) snaps → HoldsForCall AllowsAll p.seat.me.0.passes (call_of p x number) (λ h. ((call_of p x number).start ≡ h) × PutIsReady AllowsAll m (call_of p x number) h None)
-  put_begins m of at scx_at usable = record {
-    planting = planting_of p.seat.me.0.passes;
-    known = known_of p.seat.me.0.passes;
-    is = x.seat;
-    sound = x.sound;
-    so = (
-      refl,
-      put_ready_first p.layout p.number.0 number x.is_pass start m x.sound.lawful of.over (rw of.snaps_are (each_at (CanUse (pass_view p)) snaps usable)) at
-          scx_at (rw of.record_is own_scx) (rw of.record_is x.rest.share.taken_scx) (rw of.record_is free) (rw of.fresh own_node) (rw of.fresh x.rest.share.taken_nodes)
-          (rw of.fresh (x.rest.share.unmentioned p.share.next_node record { from = omega arith; below = omega arith }))
-          (rw of.fresh (x.rest.share.untaken_nodes p.share.next_node record { from = omega arith; below = omega arith }))
-          (all_over p.layout start p.number.0 p.share _ _ x.rest.share x.rest.over),
-    );
-  }
+  put_begins m of at scx_at usable = begun_with p x number (put_ready_first p.layout p.number.0 number x.is_pass start m x.sound.lawful of.over (rw of.snaps_are (each_at (CanUse (pass_view p)) snaps usable)) at
+      scx_at (rw of.record_is own_scx) (rw of.record_is x.rest.share.taken_scx) (rw of.record_is free) (rw of.fresh own_node) (rw of.fresh x.rest.share.taken_nodes)
+      (rw of.fresh (x.rest.share.unmentioned p.share.next_node record { from = omega arith; below = omega arith }))
+      (rw of.fresh (x.rest.share.untaken_nodes p.share.next_node record { from = omega arith; below = omega arith }))
+      (all_over p.layout start p.number.0 p.share _ _ x.rest.share x.rest.over))
 
   -- what the pass has after the call
   pub record HasPut (s : Seat ℕ SeatView) (a : Scx) : Type 0 where

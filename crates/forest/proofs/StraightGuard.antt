@@ -39,6 +39,7 @@ use Rattle.forest.specs.StraightWalk.{GoesAs, Walker, WalkerFinds, WalkerGoesDow
 use Rattle.forest.specs.Traces.{goes_on}
 use Rattle.forest.specs.declared.straight.node.Reached.{Reached}
 use Rattle.forest.specs.declared.view.SeatedPass.{SeatedPass}
+use Rattle.forest.proofs.Inside.{inside_host}
 use Rattle.forest.proofs.StraightUpdate.{goes_behind, moves}
 
 -- the place of an update whose walk is at this one; if it has a guard, only past the root's head
@@ -110,16 +111,10 @@ module _ {M E : Type 0} {o : Calls M} {e : EditMeaning E} (u : Updater o e) wher
 
   -- a machine that updates walks, and keeps no fork
   pub walker : {A : Type 0} → UpdateRun E A → Walker o
-  walker m = record {
-    call = u.call;
-    is_layout = u.is_layout;
-    is_number = u.is_number;
-    first = u.first;
-    with_run = λ w. u.with_run (passing m w.0);
-    tells = λ w h v run x. let y = told_there m w.0 h v (u.tells (passing m w.0) h (Some v) x) in (begun_at u.call y.begin, y.told);
-    turns = λ old now h v s goes next run x. u.turns (passing m old.0) (passing m now.0) h (Some v) s (moves_there m old.0 now.0) x (waits_there m old.0 now.0 h v s goes.0 goes.1 next (told_there m old.0 h v (u.tells (passing m old.0) h (Some v) x)));
-    stays = λ old now v goes. u.stays (passing m old.0) (passing m now.0) (moves_there m old.0 now.0);
-  }
+  walker m = inside_host u (λ (w : WalkRun × LastTurns). passing m w.0)
+      (λ w h v run x. let y = told_there m w.0 h v x in (begun_at u.call y.begin, y.told))
+      (λ old now v goes. moves_there m old.0 now.0)
+      (λ old now h v s goes next run x. waits_there m old.0 now.0 h v s goes.0 goes.1 next (told_there m old.0 h v x))
 
   -- it may go where it goes
   may_walk : (lay : Layout) (way by : Way) (goal end : Goal) → way ≡ by → goal ≡ end → MayGo lay by end → MayGo lay way goal
@@ -172,19 +167,10 @@ module _ {M E : Type 0} {o : Calls M} {e : EditMeaning E} (u : Updater o e) wher
 
       -- a machine that updates looks at its guard
       pub guard_looker : Looker TreeAllows o
-      guard_looker = record {
-        call = u.call;
-        is_layout = u.is_layout;
-        is_number = u.is_number;
-        first = u.first;
-        with_run = λ llx. u.with_run (guarding llx);
-        tells = λ llx h v run x. let y = u.tells (guarding llx) h (Some v) x in (begun_at (begun_at u.call y.0) y.3.0, (u.runs h run, y.3.2));
-        turns = λ llx now h v s node next run x.
-            let y = u.tells (guarding llx) h (Some v) x in
-            u.turns (guarding llx) (guarding now) h (Some v) s (moves u m (Guard (way_from way goal) head llx) (Guard (way_from way goal) head now) refl refl) x
-            (guard_asks e m (way_from way goal) head llx now u.call y.0 y.3.0 h (Ask s) y.1 y.2 y.3.1 node (next (begun_at (begun_at u.call y.0) y.3.0) (u.runs h run, y.3.2)) s refl);
-        stays = λ llx now v node. u.stays (guarding llx) (guarding now) (moves u m (Guard (way_from way goal) head llx) (Guard (way_from way goal) head now) refl refl);
-      }
+      guard_looker = inside_host u guarding
+          (λ llx h v run y. (begun_at (begun_at u.call y.0) y.3.0, (u.runs h run, y.3.2)))
+          (λ llx now v node. moves u m (Guard (way_from way goal) head llx) (Guard (way_from way goal) head now) refl refl)
+          (λ llx now h v s node next run y. guard_asks e m (way_from way goal) head llx now u.call y.0 y.3.0 h (Ask s) y.1 y.2 y.3.1 node (next (begun_at (begun_at u.call y.0) y.3.0) (u.runs h run, y.3.2)) s refl)
 
       -- behind the head of the root it begins to look at its guard
       pub looks_at_guard : (ps : List SeatedPass) → e.guard m.edit ≡ true → HostedIsTold u ps rooted head → LoadsMark guard_looker ps record { 0 = 2 }

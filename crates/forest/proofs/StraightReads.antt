@@ -51,6 +51,7 @@ use Rattle.forest.specs.TableRule.{history_of}
 use Rattle.forest.specs.Traces.{shared_nodes}
 use Rattle.forest.proofs.Advances.{few_taken}
 use Rattle.forest.proofs.Hosts.{either_turn, told_on}
+use Rattle.forest.proofs.Inside.{inside_host}
 
 -- one step of a seat, of a run that then has fewer steps left
 pub one_step : (before after left less : ℕ) → after ≡ suc before → less < left → after + suc less ≤ before + suc left
@@ -162,26 +163,18 @@ module _ {M R A : Type 0} {o : Calls M} {means : ReadMeaning R A} (r : Reader o 
     at llx = record m { at = Look children level llx }
 
     pub looker : Looker TreeAllows o
-    looker = record {
-      call = r.call;
-      is_layout = r.is_layout;
-      is_number = r.is_number;
-      first = r.first;
-      with_run = λ llx. r.with_run (at llx);
-      tells = λ llx h v run x. let y = r.tells (at llx) h (Some v) x in (begun_at (begun_at r.call y.0) y.4.1.0, (r.runs h run, y.4.1.2));
-      turns = λ llx now h v s node turn run x.
-          let y = r.tells (at llx) h (Some v) x in
-          r.turns (at llx) (at now) h (Some v) s (itself means (at llx)) x (
-            y.0,
-            y.1,
-            y.2,
-            (
-              subst (λ (k : NodeNo). Looks means m.read m.snaps.items (begun_at r.call y.0) h children level k.0) (sym node) y.4.0,
-              (y.4.1.0, y.4.1.1, turn (begun_at (begun_at r.call y.0) y.4.1.0) (r.runs h run, y.4.1.2)),
-            ),
-          );
-      stays = λ llx now v node. r.stays (at llx) (at now) (itself means (at llx));
-    }
+    looker = inside_host r at
+        (λ llx h v run y. (begun_at (begun_at r.call y.0) y.4.1.0, (r.runs h run, y.4.1.2)))
+        (λ llx now v node. itself means (at llx))
+        (λ llx now h v s node turn run y. (
+          y.0,
+          y.1,
+          y.2,
+          (
+            subst (λ (k : NodeNo). Looks means m.read m.snaps.items (begun_at r.call y.0) h children level k.0) (sym node) y.4.0,
+            (y.4.1.0, y.4.1.1, turn (begun_at (begun_at r.call y.0) y.4.1.0) (r.runs h run, y.4.1.2)),
+          ),
+        ))
 
     -- it begins to look
     pub begins_look : (ps : List SeatedPass) (n : NodeNo) → ReaderWaits r ps m (LookNext children level n) → InnerWaits looker ps (llx_at n Marked) (load LoadMarked (marked n.0))
@@ -229,24 +222,16 @@ module _ {M R A : Type 0} {o : Calls M} {means : ReadMeaning R A} (r : Reader o 
     asking n = record m { at = Validate n }
 
     pub validator : Validator o snaps
-    validator = record {
-      call = r.call;
-      is_layout = r.is_layout;
-      is_number = r.is_number;
-      first = r.first;
-      with_run = λ n. r.with_run (asking n);
-      tells = λ n h v run x. let y = r.tells (asking n) h (Some v) x in (begun_at (begun_at r.call y.0) y.4.0, (y.2.reads.run.1.lawful, subst (λ (l : List Snap). VlxIsTold l n (begun_at (begun_at r.call y.0) y.4.0) h v) (sym e) y.4.2));
-      turns = λ old now h v s is turn run x.
-          let y = r.tells (asking old) h (Some v) x in
-          let b = y.4.0 in let d = begun_at (begun_at r.call y.0) b in
-          r.turns (asking old) (asking now) h (Some v) s (itself means (asking old)) x (
-            y.0,
-            y.1,
-            y.2,
-            (b, y.4.1, subst (λ (l : List Snap). VlxWaits l now d h s) e (turn d (y.2.reads.run.1.lawful, subst (λ (l : List Snap). VlxIsTold l old d h v) (sym e) y.4.2))),
-          );
-      stays = λ old now v is. r.stays (asking old) (asking now) (itself means (asking old));
-    }
+    validator = inside_host r asking
+        (λ n h v run y. (begun_at (begun_at r.call y.0) y.4.0, (y.2.reads.run.1.lawful, subst (λ (l : List Snap). VlxIsTold l n (begun_at (begun_at r.call y.0) y.4.0) h v) (sym e) y.4.2)))
+        (λ old now v is. itself means (asking old))
+        (λ old now h v s is turn run y.
+        let b = y.4.0 in let d = begun_at (begun_at r.call y.0) b in (
+          y.0,
+          y.1,
+          y.2,
+          (b, y.4.1, subst (λ (l : List Snap). VlxWaits l now d h s) e (turn d (y.2.reads.run.1.lawful, subst (λ (l : List Snap). VlxIsTold l old d h v) (sym e) y.4.2))),
+        ))
 
     pub begins_vlx : (ps : List SeatedPass) → ReaderWaits r ps m ValidateNext → InnerWaits validator ps 1 (load LoadInfo (info (snap_at snaps 0).node.0))
     unfolding validator
@@ -280,24 +265,16 @@ module _ {M R A : Type 0} {o : Calls M} {means : ReadMeaning R A} (r : Reader o 
     way = leaf_way m.trie
 
     pub walker : Walker o
-    walker = record {
-      call = r.call;
-      is_layout = r.is_layout;
-      is_number = r.is_number;
-      first = r.first;
-      with_run = λ w. r.with_run (walking w.0 w.1);
-      tells = λ w h v run x. let y = r.tells (walking w.0 w.1) h (Some v) x in (begun_at r.call y.0, y.4.1);
-      turns = λ old now h v s goes next run x.
-          let y = r.tells (walking old.0 old.1) h (Some v) x in
-          let w = y.4.0 in
-          let c = begun_at r.call y.0 in
-          let waits = next c y.4.1 in
-          r.turns (walking old.0 old.1) (walking now.0 now.1) h (Some v) s (itself means m) x
-          (walk_waits means m old.0 now.0 side r.call y.0 h y.1 y.2 w.key w.goal w.goes_to (goes.1.1 ∙ w.way) goes.1.0 now.1
-          (keeps c h w.key old now v (ap path_key w.goal) (ap path_key (goes.1.0 ∙ w.goal)) w.last waits.known y.4.1 goes.2)
-          s goes.0 waits);
-      stays = λ old now v goes. r.stays (walking old.0 old.1) (walking now.0 now.1) (itself means m);
-    }
+    walker = inside_host r (λ (w : WalkRun × LastTurns). walking w.0 w.1)
+        (λ w h v run y. (begun_at r.call y.0, y.4.1))
+        (λ old now v goes. itself means m)
+        (λ old now h v s goes next run y.
+        let w = y.4.0 in
+        let c = begun_at r.call y.0 in
+        let waits = next c y.4.1 in
+        walk_waits means m old.0 now.0 side r.call y.0 h y.1 y.2 w.key w.goal w.goes_to (goes.1.1 ∙ w.way) goes.1.0 now.1
+        (keeps c h w.key old now v (ap path_key w.goal) (ap path_key (goes.1.0 ∙ w.goal)) w.last waits.known y.4.1 goes.2)
+        s goes.0 waits)
       where
         keeps : (c : Call) (h : History) (k : ℕ) (was then : WalkRun × LastTurns) (v : ℕ) → path_key was.0.goal ≡ k → path_key then.0.goal ≡ k → AreLastTurns c h k was.1 → WalkKnows c h then.0 then.0.at → WalkIsTold was.0 c h v → KeepsTurns was v then → AreLastTurns c h k then.1
         keeps c h k was then v from goal last known told (inl e) = subst (AreLastTurns c h k) (sym e) last

@@ -32,12 +32,7 @@ module _ {S T M A E : Type 0} {s : Shape T} {m : Machine M T A} {e : EditMeaning
 
   -- it continues twice
   pub tries_on : {C D : Type 0} {new third : Seat ℕ SeatView} {now : UpdateRun E C} {last : UpdateRun E D} {end : Result Next Stop} → TryGoesOn s m e hand f old run next new now behind → TryGoesOn s m e hand f new now behind third last end → TryGoesOn s m e hand f old run next third last end
-  tries_on a b = record {
-    table = (b.table.0 ∙ a.table.0, b.table.1 ∙ a.table.1);
-    to = λ u x. b.to u (a.to u x);
-    later = through _ _ _ a.later b.later;
-    steps = through _ _ _ b.steps a.steps;
-  }
+  tries_on a b = record { table = (b.table.0 ∙ a.table.0, b.table.1 ∙ a.table.1); to = λ u x. b.to u (a.to u x); later = through _ _ _ a.later b.later; steps = through _ _ _ b.steps a.steps }
 
   -- with a step it has fewer left
   pub tries_nearer : {C : Type 0} {new : Seat ℕ SeatView} {now : UpdateRun E C} → TryGoesOn s m e hand f old run next new now behind → steps_made old < steps_made new → left_then e now f behind (shared_nodes hand.layout.now) < left_then e run f next (shared_nodes hand.layout.now)
@@ -58,12 +53,7 @@ module _ {S T M A E : Type 0} {s : Shape T} {m : Machine M T A} {e : EditMeaning
 module _ {S T M A E : Type 0} {s : Shape T} {m : Machine M T A} {e : EditMeaning E} {hand : Hand S} {f : Found} {B : Type 0} {run : UpdateRun E B} {nth : Nth} {p : Piece} {old new : Seat ℕ SeatView} {next behind : Option NodeWord} where
   -- a fresh node is filled on twice
   pub fills_further : {third : Seat ℕ SeatView} {end : Option NodeWord} → FillGoesOn s m e hand f run nth p old next new behind → FillGoesOn s m e hand f run nth p new behind third end → FillGoesOn s m e hand f run nth p old next third end
-  fills_further a b = record {
-    table = (b.table.0 ∙ a.table.0, b.table.1 ∙ a.table.1);
-    to = λ u x. b.to u (a.to u x);
-    later = through _ _ _ a.later b.later;
-    steps = through _ _ _ b.steps a.steps;
-  }
+  fills_further a b = record { table = (b.table.0 ∙ a.table.0, b.table.1 ∙ a.table.1); to = λ u x. b.to u (a.to u x); later = through _ _ _ a.later b.later; steps = through _ _ _ b.steps a.steps }
 
   -- with a step fewer words are left
   pub fills_nearer : FillGoesOn s m e hand f run nth p old next new behind → steps_made old < steps_made new → fills_then p behind < fills_then p next

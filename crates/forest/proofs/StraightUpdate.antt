@@ -46,6 +46,7 @@ use Rattle.forest.specs.Traces.{goes_on, shared_nodes, weight}
 use Rattle.forest.specs.CallKinds.{Calls}
 use Rattle.forest.specs.Inside.{InnerIsTold, InnerWaits}
 use Rattle.forest.proofs.Advances.{few_taken}
+use Rattle.forest.proofs.Inside.{inside_host}
 
 -- an update is what its parts are
 pub update_is : (u : Update) (snaps : List Snap) (plan : PlanOf) (old fresh : NodeNo) → snaps ≡ u.snaps → plan ≡ u.plan → old ≡ u.old → fresh ≡ u.fresh → u ≡ record { snaps = snaps; plan = plan; old = old; fresh = fresh }
@@ -114,28 +115,19 @@ module _ {M E : Type 0} {o : Calls M} {e : EditMeaning E} (u : Updater o e) wher
 
   -- a machine that updates looks at nodes
   pub looker : {A : Type 0} → UpdateRun E A → Found → Looker TreeAllows o
-  looker m f = record {
-    call = u.call;
-    is_layout = u.is_layout;
-    is_number = u.is_number;
-    first = u.first;
-    with_run = λ llx. u.with_run (looking m f llx);
-    tells = λ llx h v run x. let y = u.tells (looking m f llx) h (Some v) x in (begun_at (begun_at u.call y.0) y.3.0, (u.runs h run, y.3.2));
-    turns = λ llx now h v s node turn run x.
-        let y = u.tells (looking m f llx) h (Some v) x in
-        let l = y.3.1 in
-        u.turns (looking m f llx) (looking m f now) h (Some v) s (moves m (Look f llx) (Look f now) refl refl) x (
-          y.0,
-          y.1,
-          tt,
-          (
-            y.3.0,
-            record { run = l.run; looked = l.looked; rests = record { share = l.rests.share; over = l.rests.over }; asked = l.asked; room = l.room; named = l.named ∙ ap At (sym node); now = l.now; quiet = l.quiet; since = l.since; guarded = l.guarded },
-            turn (begun_at (begun_at u.call y.0) y.3.0) (u.runs h run, y.3.2),
-          ),
-        );
-    stays = λ llx now v node. u.stays (looking m f llx) (looking m f now) (moves m (Look f llx) (Look f now) refl refl);
-  }
+  looker m f = inside_host u (looking m f) (λ llx h v run y. (begun_at (begun_at u.call y.0) y.3.0, (u.runs h run, y.3.2)))
+      (λ llx now v node. moves m (Look f llx) (Look f now) refl refl)
+      (λ llx now h v s node turn run y.
+      let l = y.3.1 in (
+        y.0,
+        y.1,
+        tt,
+        (
+          y.3.0,
+          record { run = l.run; looked = l.looked; rests = record { share = l.rests.share; over = l.rests.over }; asked = l.asked; room = l.room; named = l.named ∙ ap At (sym node); now = l.now; quiet = l.quiet; since = l.since; guarded = l.guarded },
+          turn (begun_at (begun_at u.call y.0) y.3.0) (u.runs h run, y.3.2),
+        ),
+      ))
 
   -- an update whose try looks at a node has begun to look at it
   pub begins_look : (ps : List SeatedPass) {A : Type 0} (m : UpdateRun E A) (f : Found) (node : NodeNo) → UpdaterTries u ps m f (LookNext node) → InnerWaits (looker m f) ps (llx_at node Marked) (load LoadMarked (marked node.0))
@@ -315,19 +307,9 @@ module _ {M E : Type 0} {o : Calls M} {e : EditMeaning E} (u : Updater o e) wher
 
   -- a machine that updates makes an SCX
   pub changer : {A : Type 0} → UpdateRun E A → Found → Changer TreeAllows o
-  changer m f = record {
-    call = u.call;
-    is_layout = u.is_layout;
-    is_number = u.is_number;
-    first = u.first;
-    with_run = λ scx. u.with_run (scxing m f scx);
-    tells = λ scx h v run x. let y = u.tells (scxing m f scx) h (Some v) x in (begun_at (begun_at u.call y.0) y.3.0, (u.runs h run, y.3.2));
-    turns = λ old now h v s goes turn run x.
-        let y = u.tells (scxing m f old) h (Some v) x in
-        u.turns (scxing m f old) (scxing m f now) h (Some v) s (moves m (Scx f old) (Scx f now) refl refl) x
-        (y.0, y.1, tt, scx_asks e (scxing m f old) old now f y.3.0 (begun_at u.call y.0) h (Ask s) s y.3.1 goes.0 goes.1 goes.2 refl (turn (begun_at (begun_at u.call y.0) y.3.0) (u.runs h run, y.3.2)));
-    stays = λ old now v goes. u.stays (scxing m f old) (scxing m f now) (moves m (Scx f old) (Scx f now) refl refl);
-  }
+  changer m f = inside_host u (scxing m f) (λ scx h v run y. (begun_at (begun_at u.call y.0) y.3.0, (u.runs h run, y.3.2)))
+      (λ old now v goes. moves m (Scx f old) (Scx f now) refl refl)
+      (λ old now h v s goes turn run y. (y.0, y.1, tt, scx_asks e (scxing m f old) old now f y.3.0 (begun_at u.call y.0) h (Ask s) s y.3.1 goes.0 goes.1 goes.2 refl (turn (begun_at (begun_at u.call y.0) y.3.0) (u.runs h run, y.3.2))))
 
   -- an update whose try makes its SCX waits for the fill of its plan
   pub begins_change : (ps : List SeatedPass) {A : Type 0} (m : UpdateRun E A) (f : Found) (scx : ScxNo) (snaps : List Snap) (plan : PlanOf) (old fresh : NodeNo) → snaps ≡ m.snaps.items → plan ≡ (update_of m).plan → old ≡ (update_of m).old → fresh ≡ (update_of m).fresh

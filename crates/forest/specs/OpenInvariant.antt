@@ -1,8 +1,8 @@
 -- What is true of the fields of every call that is held open.
 use Rattle.template.specs.Balance.{map_mode, nodes_by}
-use Rattle.std.specs.Prelude.{◌≡◌, ◌+◌, ◌-◌, ◌<◌, ◌≤◌, ℕ, Bool, true, false, [], ◌∷◌}
+use Rattle.std.specs.Prelude.{◌≡◌, ◌+◌, ◌-◌, ◌<◌, ◌≤◌, ℕ, Bool, true, false, List, [], ◌∷◌}
 use Rattle.atomic_table.specs.declared.shared.Seat.{Seat}
-use Rattle.histories.specs.Common.{Call, MatchTurn}
+use Rattle.histories.specs.Common.{Call, Layout, MatchTurn}
 use Rattle.dict.specs.Calls.{call_in, AsksForPairs}
 use Rattle.dict.specs.DictKnown.{DictWaits, DictAnswers}
 use Rattle.ordered_map.specs.CallRules.{most_steps}
@@ -49,6 +49,14 @@ pass_as p s = record {
 abbrev pub next_call : (p : PassView) → p.number < p.layout.passes → Call
 next_call p is_pass = record { layout = p.layout; pass = p.number; is_pass = is_pass; number = taken_of p; start = run_of p }
 
+-- a call keeps what its pass had as it began: its number, its layout, which call comes next, and the
+-- list of what it blames
+pub record KeepsPass (began : PassView) (n : ℕ) (lay : Layout) (next : ℕ) (blames : List ℕ) : Type 0 where
+  pub number : n ≡ began.number
+  pub layout : lay ≡ began.layout
+  pub call : next ≡ taken_of began
+  pub blamed : blames ≡ began.blamed
+
 -- what holds of every call that is held open
 pub record IsOpen {K V B : Type 0} (valid_key : K → Type 0) (key : K → ℕ) (valid_value : V → Type 0) (value : V → ℕ) (trie : Bool) (o : Inside K V B) : Type 0 where
   -- as it began its pass was one between two calls
@@ -56,10 +64,7 @@ pub record IsOpen {K V B : Type 0} (valid_key : K → Type 0) (key : K → ℕ) 
   -- only the seat and the share of it have changed
   pub table : o.seat.table_id ≡ o.began.value.table
   pub bare : o.seat.me.1 ≡ []
-  pub number : o.number.0 ≡ o.began.value.number
-  pub layout : o.layout ≡ o.began.value.layout
-  pub call : o.call ≡ taken_of o.began.value
-  pub blamed : o.blamed ≡ o.began.value.blamed
+  pub kept : KeepsPass o.began.value o.number.0 o.layout o.call o.blamed
   -- its machine waits for a step, or has answered
   pub first : DictRun K V
   pub stands : Stands (TypedAllows (IsWordOf valid_key key) (IsWordOf valid_value value)) (DictWaits (IsWordOf valid_key key) (IsWordOf valid_value value)) (IsSameDictCall valid_key key valid_value value) (next_call o.began.value pass.is_pass) o.seat.me.0.passes first (DictAnswers valid_key key valid_value value) o.run o.turn

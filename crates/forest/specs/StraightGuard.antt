@@ -28,10 +28,14 @@ use Rattle.forest.specs.StraightUpdate.{Updater, UpdaterBegins}
 use Rattle.forest.specs.StraightWalk.{AsksHead}
 use Rattle.forest.specs.Traces.{shared_nodes}
 
--- an update that has found this as the head of the root, and asks again for the state of an
--- SCX-record that was in the way of its look at its guard, node 2
+-- the place of an update that has found this as the head of the root, and asks again for the state
+-- of an SCX-record that was in the way of its look at its guard, node 2
+abbrev pub at_guard_again : Way → Goal → ℕ → Bool → ScxNo → UpdateAt
+at_guard_again way goal head marked scx = Guard (way_from way goal) head (llx_at record { 0 = 2 } (StateAgain marked scx))
+
+-- the update there
 abbrev pub guarding_again : {E A : Type 0} → UpdateRun E A → Way → Goal → ℕ → Bool → ScxNo → UpdateRun E UpdateAt
-guarding_again m way goal head marked scx = standing m (Guard (way_from way goal) head (llx_at record { 0 = 2 } (StateAgain marked scx)))
+guarding_again m way goal head marked scx = standing m (at_guard_again way goal head marked scx)
 
 module _ {M E : Type 0} {o : Calls M} {e : EditMeaning E} (u : Updater o e) (ps : List SeatedPass) where
   -- its update's walk by this way to this goal waits for the head of the node at this place, and if

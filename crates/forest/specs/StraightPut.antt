@@ -13,14 +13,13 @@ use Rattle.forest.specs.Traces.{CallBegins, Waits, Told, Ends}
 abbrev pub IsSamePut : PutRun → PutRun → Type 0
 IsSamePut old now = (now.scx.scx ≡ old.scx.scx) × (now.scx.update ≡ old.scx.update) × (now.scx.call ≡ old.scx.call) × (now.value ≡ old.value)
 
--- the run over these snapshots of what is to be put, in the
--- call of this number, that is at these places
-abbrev pub standing_put : List Snap → PutTask → ℕ → ScxAt → PutAt → PutRun
-standing_put snaps put number scx at = record { value = put.value; scx = record { scx = put.scx; call = number; update = record { snaps = snaps; plan = put.plan; old = put.old; fresh = put.fresh }; at = scx }; at = at }
+-- the run over these snapshots of what is to be put, that is at these places
+abbrev pub standing_put : List Snap → PutTask → ScxAt → PutAt → PutRun
+standing_put snaps put scx at = let task = put.task in record { value = put.value; scx = record { scx = task.scx; call = task.call; update = record { snaps = snaps; plan = task.plan; old = task.old; fresh = task.fresh }; at = scx }; at = at }
 
 -- the same run at its start
-abbrev pub fresh_put : List Snap → PutTask → ℕ → PutRun
-fresh_put snaps put number = standing_put snaps put number ScxStart Start
+abbrev pub fresh_put : List Snap → PutTask → PutRun
+fresh_put snaps put = standing_put snaps put ScxStart Start
 
 -- a run with its SCX at a place
 abbrev pub scx_at : PutRun → ScxAt → PutRun

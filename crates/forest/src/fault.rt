@@ -1,7 +1,7 @@
 //! What can be refused here.
 ghost use Rattle.std.specs.Prelude.{◌≡◌};
 
-use arena::{BadLimits, Full, NoMemory, NodeNo, ScxNo};
+use arena::{Full, NoMemory, NodeNo, ScxNo};
 use thiserror::Error;
 
 /// Why a forest was not made.
@@ -13,26 +13,6 @@ pub enum NewFault {
     /// An allocation was refused.
     #[error("no memory")]
     NoMemory,
-}
-
-impl From<BadLimits> for NewFault {
-    ghost use Rattle.forest.specs.declared.fault.NewFault.{NewFault};
-
-    ghost from_gives = { λ _ fault. fault ≡ NewFault.Limits };
-
-    fn from(_bad: BadLimits) -> NewFault {
-        NewFault::Limits
-    }
-}
-
-impl From<NoMemory> for NewFault {
-    ghost use Rattle.forest.specs.declared.fault.NewFault.{NewFault};
-
-    ghost from_gives = { λ _ fault. fault ≡ NewFault.NoMemory };
-
-    fn from(_none: NoMemory) -> NewFault {
-        NewFault::NoMemory
-    }
 }
 
 /// Why no forest begins with some pairs.

@@ -27,11 +27,14 @@ fn is_leaf_piece(piece: &Piece) -> bool
     }
 }
 
-/// A fresh node: which of those of its edit it is, and where its words begin.
+/// A fresh node of a try: what its walk has found, which of those of its edit it is, where its words
+/// begin, and what is to be in them.
 #[derive(Clone, Copy)]
-struct FreshNode {
+struct FreshNode<'a> {
+    found: &'a Found,
     nth: Nth,
     start: usize,
+    piece: &'a Piece,
 }
 
 /// Stores what a word of the fresh node of this place is to hold.
@@ -40,19 +43,19 @@ fn put<S: Shape, M: Machine<S>, E: Edit + Copy>(
     hand: Hand<S>,
     seat: &mut Seat<u8, SeatView>,
     run: &UpdateRun<E, ()>,
-    found: &Found,
-    node: FreshNode,
-    piece: &Piece,
+    node: FreshNode<'_>,
     part: NodeWord,
     value: u64,
 )
     requires table { IsAt hand seat.old }
-    requires fresh { IsFreshPiece hand.layout.now E.means run.now found.now node.nth node.start piece.now }
-    requires value { value ≡ word_of piece.now part }
-    requires fills { StandsToFill S.Shape M.Machine E.means hand found.now
+    requires fresh { IsFreshPiece hand.layout.now E.means run.now node.found.now
+        node.nth node.start node.piece.now }
+    requires value { value ≡ word_of node.piece.now part }
+    requires fills { StandsToFill S.Shape M.Machine E.means hand node.found.now
         seat.old run.now node.nth (Some part) }
-    ensures goes_on { FillGoesOn S.Shape M.Machine E.means hand.entry found.now
-        run.now node.nth piece.now seat.old (Some part) seat.new (part_behind piece.now part) }
+    ensures goes_on { FillGoesOn S.Shape M.Machine E.means hand.entry node.entry.found.now
+        run.now node.entry.nth node.entry.piece.now seat.old (Some part)
+        seat.new (part_behind node.entry.piece.now part) }
     ensures moves { steps_made seat.old < steps_made seat.new }
 {
     let (kind, word) = (Kind::Fill, Word::Node(run.nodes.at(node.nth), part));
@@ -67,23 +70,22 @@ fn fill<S: Shape, M: Machine<S>, E: Edit + Copy>(
     hand: Hand<S>,
     seat: &mut Seat<u8, SeatView>,
     run: &UpdateRun<E, ()>,
-    found: &Found,
-    node: FreshNode,
-    piece: &Piece,
+    node: FreshNode<'_>,
     part: NodeWord,
 ) -> Option<NodeWord>
     requires table { IsAt hand seat.old }
-    requires fresh { IsFreshPiece hand.layout.now E.means run.now found.now node.nth node.start piece.now }
-    requires fills { StandsToFill S.Shape M.Machine E.means hand found.now
+    requires fresh { IsFreshPiece hand.layout.now E.means run.now node.found.now
+        node.nth node.start node.piece.now }
+    requires fills { StandsToFill S.Shape M.Machine E.means hand node.found.now
         seat.old run.now node.nth (Some part) }
-    ensures goes_on { FillGoesOn S.Shape M.Machine E.means hand.entry found.now
-        run.now node.nth piece.now seat.old (Some part) seat.new result }
+    ensures goes_on { FillGoesOn S.Shape M.Machine E.means hand.entry node.entry.found.now
+        run.now node.entry.nth node.entry.piece.now seat.old (Some part) seat.new result }
     ensures moves { steps_made seat.old < steps_made seat.new }
-    ensures filled { IfSome result (λ part. is_filled piece.now part ≡ true) }
+    ensures filled { IfSome result (λ part. is_filled node.entry.piece.now part ≡ true) }
 {
-    let value = piece.word(part);
-    put::<S, M, E>(hand, seat, run, found, node, piece, part, value);
-    piece.behind(part)
+    let value = node.piece.word(part);
+    put::<S, M, E>(hand, seat, run, node, part, value);
+    node.piece.behind(part)
 }
 
 /// Fills the pair in this slot of a leaf: its key, and what of its value is to be filled. Where its
@@ -93,33 +95,32 @@ fn fill_pair<S: Shape, M: Machine<S>, E: Edit + Copy>(
     hand: Hand<S>,
     seat: &mut Seat<u8, SeatView>,
     run: &UpdateRun<E, ()>,
-    found: &Found,
-    node: FreshNode,
-    piece: &Piece,
+    node: FreshNode<'_>,
     slot: Slot,
 ) -> Option<NodeWord>
     requires table { IsAt hand seat.old }
-    requires fresh { IsFreshPiece hand.layout.now E.means run.now found.now node.nth node.start piece.now }
-    requires fills { StandsToFill S.Shape M.Machine E.means hand found.now
+    requires fresh { IsFreshPiece hand.layout.now E.means run.now node.found.now
+        node.nth node.start node.piece.now }
+    requires fills { StandsToFill S.Shape M.Machine E.means hand node.found.now
         seat.old run.now node.nth (Some (NodeWord.Settled (SettledPart.Key slot))) }
-    requires leaf { is_leaf_piece piece.now ≡ true }
-    requires there { is_filled piece.now (NodeWord.Settled (SettledPart.Key slot)) ≡ true }
-    ensures goes_on { FillGoesOn S.Shape M.Machine E.means hand.entry found.now
-        run.now node.nth piece.now seat.old (Some (NodeWord.Settled (SettledPart.Key slot)))
+    requires leaf { is_leaf_piece node.piece.now ≡ true }
+    requires there { is_filled node.piece.now (NodeWord.Settled (SettledPart.Key slot)) ≡ true }
+    ensures goes_on { FillGoesOn S.Shape M.Machine E.means hand.entry node.entry.found.now
+        run.now node.entry.nth node.entry.piece.now seat.old (Some (NodeWord.Settled (SettledPart.Key slot)))
         seat.new result }
-    ensures filled { IfSome result (λ part. is_filled piece.now part ≡ true) }
+    ensures filled { IfSome result (λ part. is_filled node.entry.piece.now part ≡ true) }
 {
-    let (key, low, high) = piece.pair_words(slot);
+    let (key, low, high) = node.piece.pair_words(slot);
     let part = NodeWord::Settled(SettledPart::Key(slot));
-    put::<S, M, E>(hand, seat, run, found, node, piece, part, key);
+    put::<S, M, E>(hand, seat, run, node, part, key);
     let part = NodeWord::Settled(SettledPart::Value(slot));
-    put::<S, M, E>(hand, seat, run, found, node, piece, part, low);
+    put::<S, M, E>(hand, seat, run, node, part, low);
     if high == 0 {
-        return piece.key_behind(slot);
+        return node.piece.key_behind(slot);
     }
     let part = NodeWord::Settled(SettledPart::High(slot));
-    put::<S, M, E>(hand, seat, run, found, node, piece, part, high);
-    piece.key_behind(slot)
+    put::<S, M, E>(hand, seat, run, node, part, high);
+    node.piece.key_behind(slot)
 }
 
 /// Fills the count of the pairs, where that is the word that is filled next.
@@ -128,24 +129,23 @@ fn fill_more<S: Shape, M: Machine<S>, E: Edit + Copy>(
     hand: Hand<S>,
     seat: &mut Seat<u8, SeatView>,
     run: &UpdateRun<E, ()>,
-    found: &Found,
-    node: FreshNode,
-    piece: &Piece,
+    node: FreshNode<'_>,
     next: Option<NodeWord>,
 ) -> Option<NodeWord>
     requires table { IsAt hand seat.old }
-    requires fresh { IsFreshPiece hand.layout.now E.means run.now found.now node.nth node.start piece.now }
-    requires fills { StandsToFill S.Shape M.Machine E.means hand found.now
+    requires fresh { IsFreshPiece hand.layout.now E.means run.now node.found.now
+        node.nth node.start node.piece.now }
+    requires fills { StandsToFill S.Shape M.Machine E.means hand node.found.now
         seat.old run.now node.nth next }
-    requires there { IfSome next (λ part. is_filled piece.now part ≡ true) }
-    ensures goes_on { FillGoesOn S.Shape M.Machine E.means hand.entry found.now
-        run.now node.nth piece.now seat.old next seat.new result }
-    ensures filled { IfSome result (λ part. is_filled piece.now part ≡ true) }
+    requires there { IfSome next (λ part. is_filled node.piece.now part ≡ true) }
+    ensures goes_on { FillGoesOn S.Shape M.Machine E.means hand.entry node.entry.found.now
+        run.now node.entry.nth node.entry.piece.now seat.old next seat.new result }
+    ensures filled { IfSome result (λ part. is_filled node.entry.piece.now part ≡ true) }
 {
     match next {
         Some(NodeWord::Settled(SettledPart::More)) => {
             let more = NodeWord::Settled(SettledPart::More);
-            fill::<S, M, E>(hand, seat, run, found, node, piece, more)
+            fill::<S, M, E>(hand, seat, run, node, more)
         }
         _ => next,
     }
@@ -157,25 +157,23 @@ fn fill_next_pair<S: Shape, M: Machine<S>, E: Edit + Copy>(
     hand: Hand<S>,
     seat: &mut Seat<u8, SeatView>,
     run: &UpdateRun<E, ()>,
-    found: &Found,
-    node: FreshNode,
-    piece: &Piece,
+    node: FreshNode<'_>,
     next: Option<NodeWord>,
     slot: Slot,
 ) -> Option<NodeWord>
     requires table { IsAt hand seat.old }
-    requires fresh { IsFreshPiece hand.layout.now E.means run.now found.now node.nth node.start piece.now }
-    requires fills { StandsToFill S.Shape M.Machine E.means hand found.now
+    requires fresh { IsFreshPiece hand.layout.now E.means run.now node.found.now
+        node.nth node.start node.piece.now }
+    requires fills { StandsToFill S.Shape M.Machine E.means hand node.found.now
         seat.old run.now node.nth next }
-    requires there { IfSome next (λ part. is_filled piece.now part ≡ true) }
-    ensures goes_on { FillGoesOn S.Shape M.Machine E.means hand.entry found.now
-        run.now node.nth piece.now seat.old next seat.new result }
-    ensures filled { IfSome result (λ part. is_filled piece.now part ≡ true) }
+    requires there { IfSome next (λ part. is_filled node.piece.now part ≡ true) }
+    ensures goes_on { FillGoesOn S.Shape M.Machine E.means hand.entry node.entry.found.now
+        run.now node.entry.nth node.entry.piece.now seat.old next seat.new result }
+    ensures filled { IfSome result (λ part. is_filled node.entry.piece.now part ≡ true) }
 {
     match next {
-        Some(NodeWord::Settled(SettledPart::Key(at))) if at == slot && is_leaf_piece(piece) => {
-            fill_pair::<S, M, E>(hand, seat, run, found, node, piece, at)
-        }
+        Some(NodeWord::Settled(SettledPart::Key(at))) if at == slot && is_leaf_piece(node.piece) =>
+            { fill_pair::<S, M, E>(hand, seat, run, node, at) }
         _ => next,
     }
 }
@@ -186,23 +184,22 @@ fn fill_pairs<S: Shape, M: Machine<S>, E: Edit + Copy>(
     hand: Hand<S>,
     seat: &mut Seat<u8, SeatView>,
     run: &UpdateRun<E, ()>,
-    found: &Found,
-    node: FreshNode,
-    piece: &Piece,
+    node: FreshNode<'_>,
     next: Option<NodeWord>,
 ) -> Option<NodeWord>
     requires table { IsAt hand seat.old }
-    requires fresh { IsFreshPiece hand.layout.now E.means run.now found.now node.nth node.start piece.now }
-    requires fills { StandsToFill S.Shape M.Machine E.means hand found.now
+    requires fresh { IsFreshPiece hand.layout.now E.means run.now node.found.now
+        node.nth node.start node.piece.now }
+    requires fills { StandsToFill S.Shape M.Machine E.means hand node.found.now
         seat.old run.now node.nth next }
-    requires there { IfSome next (λ part. is_filled piece.now part ≡ true) }
-    ensures { FillGoesOn S.Shape M.Machine E.means hand.entry found.now
-        run.now node.nth piece.now seat.old next seat.new result }
+    requires there { IfSome next (λ part. is_filled node.piece.now part ≡ true) }
+    ensures { FillGoesOn S.Shape M.Machine E.means hand.entry node.entry.found.now
+        run.now node.entry.nth node.entry.piece.now seat.old next seat.new result }
 {
-    let next = fill_next_pair::<S, M, E>(hand, seat, run, found, node, piece, next, Slot::First);
-    let next = fill_next_pair::<S, M, E>(hand, seat, run, found, node, piece, next, Slot::Second);
-    let next = fill_next_pair::<S, M, E>(hand, seat, run, found, node, piece, next, Slot::Third);
-    fill_next_pair::<S, M, E>(hand, seat, run, found, node, piece, next, Slot::Fourth)
+    let next = fill_next_pair::<S, M, E>(hand, seat, run, node, next, Slot::First);
+    let next = fill_next_pair::<S, M, E>(hand, seat, run, node, next, Slot::Second);
+    let next = fill_next_pair::<S, M, E>(hand, seat, run, node, next, Slot::Third);
+    fill_next_pair::<S, M, E>(hand, seat, run, node, next, Slot::Fourth)
 }
 
 /// Fills the fresh node of this place.
@@ -223,13 +220,18 @@ pub(crate) fn fill_node<S: Shape, M: Machine<S>, E: Edit + Copy>(
 {
     let piece = run.piece(found, nth);
     let start = hand.node_start(run.nodes.at(nth));
-    let node = FreshNode { nth, start };
+    let node = FreshNode {
+        found,
+        nth,
+        start,
+        piece: &piece,
+    };
     let head = NodeWord::Settled(SettledPart::Head);
-    let next = fill::<S, M, E>(hand, seat, run, found, node, &piece, head);
-    let next = fill_more::<S, M, E>(hand, seat, run, found, node, &piece, next);
-    let mut next = fill_pairs::<S, M, E>(hand, seat, run, found, node, &piece, next);
+    let next = fill::<S, M, E>(hand, seat, run, node, head);
+    let next = fill_more::<S, M, E>(hand, seat, run, node, next);
+    let mut next = fill_pairs::<S, M, E>(hand, seat, run, node, next);
     while let Some(part) = next {
-        next = fill::<S, M, E>(hand, seat, run, found, node, &piece, part);
+        next = fill::<S, M, E>(hand, seat, run, node, part);
     }
     run.filled(found, nth)
 }

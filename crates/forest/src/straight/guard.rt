@@ -4,11 +4,13 @@ ghost use Rattle.std.specs.Prelude.{◌≡◌, true, IfErr, IfOk};
 ghost use Rattle.forest.specs.Hands.{IsAt, hand_calls};
 ghost use Rattle.forest.specs.Leads.{Leads};
 ghost use Rattle.forest.specs.Traces.{shared_nodes};
-ghost use Rattle.forest.specs.StraightGuard.{BeginsToWalk};
+ghost use Rattle.forest.specs.StraightGuard.{BeginsToWalk, at_guard_again};
 ghost use Rattle.forest.specs.StraightUpdate.{Updater, UpdaterBegins, UpdaterEnds};
 ghost use Rattle.edits.specs.Next.{standing};
 ghost use Rattle.edits.specs.Steps.{update_left};
-ghost use Rattle.edits.specs.declared.update.UpdateAt.{UpdateAt};
+ghost use Rattle.edits.specs.declared.update.UpdateAt.{UpdateAt as Places};
+ghost use Rattle.histories.specs.Common.{LoadState, state};
+ghost use Rattle.template.specs.Common.{load};
 
 use crate::straight::hand::Hand;
 use crate::straight::llx::{load, look};
@@ -16,10 +18,33 @@ use crate::straight::node::{Reached, descend};
 use crate::straight::resume;
 use crate::straight::step::step;
 use crate::view::SeatView;
-use arena::{Kind, Machine, NodeNo, NodeWord, SettledPart, Shape, Side, Word};
+use arena::{
+    Kind, Machine, NodeNo, NodeWord, ScxNo, ScxWord, SettledPart, Shape, Side, Step, Word,
+};
 use atomic_table::Seat;
-use edits::{Edit, UpdateRun, Updated};
-use template::{Goal, Tree, Way};
+use edits::{Edit, UpdateAt, UpdateRun, Updated};
+use prims::{LlxAt, LlxRun};
+use template::{Goal, Tree, WalkAt, WalkRun, Way};
+
+/// The place of an update whose walk, by this way to this goal, has found this as the head of the
+/// root, where something is in the way of the look at its guard, and the step for which it waits:
+/// with this SCX-record the guard was marked or not, whose state is asked for again.
+#[inline(always)]
+fn again(way: Way, goal: Goal, head: u64, marked: bool, scx: ScxNo) -> (UpdateAt, Step)
+    ensures { result ≡ (at_guard_again way goal head marked scx, load LoadState (state scx.0)) }
+{
+    let (trail, at) = (Reached::root().trail, WalkAt::Root);
+    let walk = WalkRun {
+        goal,
+        way,
+        trail,
+        at,
+    };
+    let (node, at) = (NodeNo(2), LlxAt::StateAgain { marked, scx });
+    let llx = LlxRun { node, at };
+    let asked = load(Kind::LoadState, Word::Scx(scx, ScxWord::State));
+    (UpdateAt::Guard { walk, head, llx }, asked)
+}
 
 /// Looks at the guard of an edit, between the loads of the root's head and of its child, and keeps
 /// its snapshot. If something is in the way, its machine continues from there.
@@ -39,7 +64,7 @@ fn pass<S: Shape, M: Machine<S>, E: Edit + Copy>(
     ensures walks { IfOk result (λ place.
         BeginsToWalk S.Shape M.Machine E.means hand.entry way goal seat.old run.old seat.new run.new place) }
     ensures ends { IfErr result (λ updated. Leads seat.old seat.new
-        (update_left E.means (standing run.old UpdateAt.Start) (shared_nodes hand.entry.layout.now))
+        (update_left E.means (standing run.old Places.Start) (shared_nodes hand.entry.layout.now))
         (λ (u : Updater (hand_calls S.Shape M.Machine hand.entry) E.means) ps. UpdaterBegins u ps run.old)
         (λ u ps. UpdaterEnds u ps run.new updated)) }
 {
@@ -53,7 +78,8 @@ fn pass<S: Shape, M: Machine<S>, E: Edit + Copy>(
             Ok(descend::<S, M>(hand, seat, way, goal, root, head, Side::Left))
         }
         Err((marked, scx)) => {
-            Err(resume::from_guard::<S, M, E>(hand, seat, run, way, goal, head, marked, scx))
+            let (at, asked) = again(way, goal, head, marked, scx);
+            Err(resume::from_place::<S, M, E>(hand, seat, run, at, asked))
         }
     }
 }
@@ -75,7 +101,7 @@ pub(crate) fn begin<S: Shape, M: Machine<S>, E: Edit + Copy>(
     ensures walks { IfOk result (λ place.
         BeginsToWalk S.Shape M.Machine E.means hand.entry way goal seat.old run.old seat.new run.new place) }
     ensures ends { IfErr result (λ updated. Leads seat.old seat.new
-        (update_left E.means (standing run.old UpdateAt.Start) (shared_nodes hand.entry.layout.now))
+        (update_left E.means (standing run.old Places.Start) (shared_nodes hand.entry.layout.now))
         (λ (u : Updater (hand_calls S.Shape M.Machine hand.entry) E.means) ps. UpdaterBegins u ps run.old)
         (λ u ps. UpdaterEnds u ps run.new updated)) }
 {

@@ -1,6 +1,6 @@
 //! HELP, of whatever machine helps: its steps inline.
 ghost use Rattle.std.specs.Prelude.{◌≡◌, ◌≢◌, ◌+◌, ◌≤◌, ◌⊎◌, ℕ, suc, true, false};
-ghost use Rattle.arena.specs.Layout.{scx_start};
+ghost use Rattle.arena.specs.Layout.{scx_start, start_of};
 ghost use Rattle.arena.specs.MemberIndex.{member_index};
 ghost use Rattle.help.specs.Help.Steps.{help_left};
 ghost use Rattle.help.specs.Help.Known.{settled_load};
@@ -20,6 +20,26 @@ use arena::{
 use atomic_table::Seat;
 use help::{HelpAt, HelpRun};
 
+/// Makes the step that a HELP waits for, on a word whose node or SCX-record begins there.
+#[inline(always)]
+fn act_on<S: Shape, M: Machine<S>, T: Shape>(
+    hand: Hand<S>,
+    seat: &mut Seat<u8, SeatView>,
+    start: usize,
+    word: Word,
+    kind: Kind,
+    access: Access,
+) -> u64
+    requires table { IsAt hand seat.old }
+    requires start { start ≡ start_of hand.layout.now word }
+    requires waits { WaitsInside (hand_calls S.Shape M.Machine hand) (inner_help T.allows)
+        seat.old record { kind = kind; word = word; access = access } }
+    ensures { MakesInside (hand_calls S.Shape M.Machine hand.entry) (inner_help T.allows)
+        seat.old seat.new record { kind = kind; word = word; access = access } result }
+{
+    step_from::<S, M>(hand, seat, Step { kind, word, access }, start)
+}
+
 /// Makes the step that a HELP waits for, on a word of a node.
 #[inline(always)]
 fn act<S: Shape, M: Machine<S>, T: Shape>(
@@ -38,29 +58,7 @@ fn act<S: Shape, M: Machine<S>, T: Shape>(
 {
     let start = hand.node_start(node);
     let word = Word::Node(node, part);
-    step_from::<S, M>(hand, seat, Step { kind, word, access }, start)
-}
-
-/// Makes the step that a HELP waits for, on a word of the SCX-record, which begins there.
-#[inline(always)]
-fn act_on<S: Shape, M: Machine<S>, T: Shape>(
-    hand: Hand<S>,
-    seat: &mut Seat<u8, SeatView>,
-    scx: ScxNo,
-    start: usize,
-    part: ScxWord,
-    kind: Kind,
-    access: Access,
-) -> u64
-    requires table { IsAt hand seat.old }
-    requires start { start ≡ scx_start hand.layout.now scx }
-    requires waits { WaitsInside (hand_calls S.Shape M.Machine hand) (inner_help T.allows)
-        seat.old record { kind = kind; word = Word.Scx scx part; access = access } }
-    ensures { MakesInside (hand_calls S.Shape M.Machine hand.entry) (inner_help T.allows)
-        seat.old seat.new record { kind = kind; word = Word.Scx scx part; access = access } result }
-{
-    let word = Word::Scx(scx, part);
-    step_from::<S, M>(hand, seat, Step { kind, word, access }, start)
+    act_on::<S, M, T>(hand, seat, start, word, kind, access)
 }
 
 /// Loads a settled word of the SCX-record, which begins there.
@@ -79,8 +77,9 @@ fn read<S: Shape, M: Machine<S>, T: Shape>(
     ensures { MakesInside (hand_calls S.Shape M.Machine hand.entry) (inner_help T.allows)
         seat.old seat.new (settled_load scx.0 part) result }
 {
-    let (kind, access) = (Kind::LoadSettled, Access::Load);
-    act_on::<S, M, T>(hand, seat, scx, start, part, kind, access)
+    let (kind, word) = (Kind::LoadSettled, Word::Scx(scx, part));
+    let access = Access::Load;
+    act_on::<S, M, T>(hand, seat, start, word, kind, access)
 }
 
 /// Whether an info that a freezing exchange found so is frozen now.
@@ -262,9 +261,9 @@ pub(crate) fn commit<S: Shape, M: Machine<S>, T: Shape>(
         (λ k ps. (v : ℕ) × InnerIsTold k ps (record run.now { at = HelpAt.Commit }) v) }
 {
     let (scx, plan) = (run.scx, run.plan);
-    let part = ScxWord::AllFrozen;
+    let word = Word::Scx(scx, ScxWord::AllFrozen);
     let flag = Access::Store(1);
-    act_on::<S, M, T>(hand, seat, scx, start, part, Kind::SetFrozen, flag);
+    act_on::<S, M, T>(hand, seat, start, word, Kind::SetFrozen, flag);
     mark_all::<S, M, T>(hand, seat, run);
     let new = read::<S, M, T>(hand, seat, scx, start, ScxWord::New);
     let old = read::<S, M, T>(hand, seat, scx, start, ScxWord::Old);
@@ -272,9 +271,9 @@ pub(crate) fn commit<S: Shape, M: Machine<S>, T: Shape>(
     let field = NodeWord::Child(plan.side());
     let change = Access::Exchange { expected: old, new };
     act::<S, M, T>(hand, seat, node, field, Kind::Update, change);
-    let part = ScxWord::State;
+    let word = Word::Scx(scx, ScxWord::State);
     let commit = Access::Store(COMMITTED);
-    act_on::<S, M, T>(hand, seat, scx, start, part, Kind::Commit, commit);
+    act_on::<S, M, T>(hand, seat, start, word, Kind::Commit, commit);
 }
 
 /// HELP of an SCX-record by a run that has not begun; returns whether it has committed. If a node

@@ -14,40 +14,34 @@ use crate::straight::hand::Hand;
 use crate::straight::scx::{self, ScxTask};
 use crate::straight::step::step;
 use crate::view::SeatView;
-use arena::{
-    Access, Kind, NodeNo, NodeWord, Plan, ScxNo, ScxWord, SettledPart, Shape, Slot, Step, Turn,
-    Word,
-};
+use arena::{Access, Kind, NodeWord, ScxWord, SettledPart, Shape, Slot, Step, Turn, Word};
 use atomic_table::Seat;
 use help::HelpRun;
 use prims::{PutAt, PutRun, Scx, ScxAt, ScxRun, Snap, Snaps, Update};
 
-/// What an SCX with a fresh cell is to do, beside the snapshots, which stay where the caller has
-/// them.
+/// What an SCX with a fresh cell is to do, which gets this value.
 #[derive(Clone, Copy)]
 pub(crate) struct PutTask {
-    pub(crate) plan: Plan,
-    pub(crate) old: NodeNo,
-    pub(crate) fresh: NodeNo,
+    pub(crate) task: ScxTask,
     pub(crate) value: u64,
-    pub(crate) scx: ScxNo,
 }
 
 /// Its machine, which only says where the call is.
 #[inline(always)]
-fn machine(snaps: &[Snap], put: PutTask, number: u64, scx: ScxAt, at: PutAt) -> PutRun
+fn machine(snaps: &[Snap], put: PutTask, scx: ScxAt, at: PutAt) -> PutRun
     requires fits { length snaps.now ≤ 4 }
-    ensures { result ≡ standing_put snaps.now put number scx at }
+    ensures { result ≡ standing_put snaps.now put scx at }
 {
+    let task = put.task;
     let update = Update {
         snaps: Snaps::new(snaps),
-        plan: put.plan,
-        old: put.old,
-        fresh: put.fresh,
+        plan: task.plan,
+        old: task.old,
+        fresh: task.fresh,
     };
     let scx = ScxRun {
-        scx: put.scx,
-        call: number,
+        scx: task.scx,
+        call: task.call,
         update,
         at: scx,
     };
@@ -64,19 +58,19 @@ fn fill_value<S: Shape>(hand: Hand<S>, seat: &mut Seat<u8, SeatView>, snaps: &[S
     requires table { IsAt hand seat.old }
     requires fits { length snaps.now ≤ 4 }
     requires begins { (c : Call) × IsCallOf hand c
-        × SeatPutBegins S.allows c seat.old.me.0.passes (fresh_put snaps.now put hand.number) }
+        × SeatPutBegins S.allows c seat.old.me.0.passes (fresh_put snaps.now put) }
     ensures table { StaysAtTable seat.old seat.new }
     ensures one { steps_made seat.new ≡ suc (steps_made seat.old) }
     ensures waits { (c : Call) → IsCallOf hand.entry c
-        → SeatPutBegins S.allows c seat.old.me.0.passes (fresh_put snaps.now put hand.entry.number)
-        → SeatPutWaits S.allows c seat.new.me.0.passes (fresh_put snaps.now put hand.entry.number)
-        (scx_at (fresh_put snaps.now put hand.entry.number) ScxAt.Plan)
-        (scx_fill put.scx ScxWord.Plan put.plan.0) }
+        → SeatPutBegins S.allows c seat.old.me.0.passes (fresh_put snaps.now put)
+        → SeatPutWaits S.allows c seat.new.me.0.passes (fresh_put snaps.now put)
+        (scx_at (fresh_put snaps.now put) ScxAt.Plan)
+        (scx_fill put.task.scx ScxWord.Plan put.task.plan.0) }
 {
     let asked = Step {
         kind: Kind::Fill,
         word: Word::Node(
-            put.fresh,
+            put.task.fresh,
             NodeWord::Settled(SettledPart::Value(Slot::First)),
         ),
         access: Access::Store(put.value),
@@ -99,20 +93,20 @@ fn complete_blocked<S: Shape>(
     requires fits { length snaps.now ≤ 4 }
     requires waits { (c : Call) × (first : PutRun) × IsCallOf hand c
         × SeatPutWaits S.allows c seat.old.me.0.passes first
-        (standing_put snaps.now put hand.number (ScxAt.Help help.now) PutAt.Scx)
-        (all_frozen_load put.scx) }
+        (standing_put snaps.now put (ScxAt.Help help.now) PutAt.Scx)
+        (all_frozen_load put.task.scx) }
     ensures table { StaysAtTable seat.old seat.new }
     ensures steps { steps_made seat.new
         ≤ steps_made seat.old + suc (put_left
-        (standing_put snaps.now put hand.entry.number (ScxAt.Help help.now) PutAt.Scx)) }
+        (standing_put snaps.now put (ScxAt.Help help.now) PutAt.Scx)) }
     ensures ends { (c : Call) (first : PutRun) → IsCallOf hand.entry c
         → SeatPutWaits S.allows c seat.old.me.0.passes first
-        (standing_put snaps.now put hand.entry.number (ScxAt.Help help.now) PutAt.Scx)
-        (all_frozen_load put.scx)
+        (standing_put snaps.now put (ScxAt.Help help.now) PutAt.Scx)
+        (all_frozen_load put.task.scx)
         → (m : PutRun) × SeatPutEnds S.allows c seat.new.me.0.passes first m result }
 {
     let (words, copy, number) = (hand.words, *hand.layout, hand.number);
-    let mut run = machine(snaps, put, number, ScxAt::Help { help: *help }, PutAt::Scx);
+    let mut run = machine(snaps, put, ScxAt::Help { help: *help }, PutAt::Scx);
     let step = Step {
         kind: Kind::LoadAllFrozen,
         word: Word::Scx(run.scx.scx, ScxWord::AllFrozen),
@@ -132,25 +126,18 @@ pub(crate) fn call<S: Shape>(
     requires table { IsAt hand seat.old }
     requires fits { length snaps.now ≤ 4 }
     requires begins { (c : Call) × IsCallOf hand c
-        × SeatPutBegins S.allows c seat.old.me.0.passes (fresh_put snaps.now put hand.number) }
+        × SeatPutBegins S.allows c seat.old.me.0.passes (fresh_put snaps.now put) }
     ensures table { StaysAtTable seat.old seat.new }
     ensures steps { steps_made seat.new ≤ steps_made seat.old + 40 }
     ensures ends { (c : Call) → IsCallOf hand.entry c
-        → SeatPutBegins S.allows c seat.old.me.0.passes (fresh_put snaps.now put hand.entry.number)
+        → SeatPutBegins S.allows c seat.old.me.0.passes (fresh_put snaps.now put)
         → (m : PutRun) × SeatPutEnds S.allows c seat.new.me.0.passes
-        (fresh_put snaps.now put hand.entry.number) m result }
+        (fresh_put snaps.now put) m result }
 {
     fill_value(hand, seat, snaps, put);
-    let change = ScxTask {
-        scx: put.scx,
-        call: hand.number,
-        plan: put.plan,
-        old: put.old,
-        fresh: put.fresh,
-    };
-    let mut help = HelpRun::new(put.scx);
+    let mut help = HelpRun::new(put.task.scx);
     let own = &mut help;
-    if scx::call::<S, PutRun, S, &[Snap]>(hand, seat, &snaps, change, own) {
+    if scx::call::<S, PutRun, S, &[Snap]>(hand, seat, &snaps, put.task, own) {
         return Scx::Done;
     }
     complete_blocked(hand, seat, snaps, put, &help)

@@ -4,26 +4,20 @@ ghost use Rattle.forest.specs.Hosts.{HostedStands, HostedWaits};
 ghost use Rattle.forest.specs.Hands.{IsAt, hand_calls};
 ghost use Rattle.forest.specs.Leads.{Leads};
 ghost use Rattle.forest.specs.Traces.{shared_nodes, weight};
-ghost use Rattle.forest.specs.StraightGuard.{UpdaterGuardsAgain, left_at_guard};
 ghost use Rattle.forest.specs.StraightUpdate.{StandsToTry, TryEnds, Updater, UpdaterEnds, UpdaterIsBlocked, left_at_block};
 ghost use Rattle.edits.specs.Next.{standing};
 ghost use Rattle.edits.specs.Steps.{update_left};
 ghost use Rattle.edits.specs.declared.update.UpdateAt.{UpdateAt as Places};
 
 use crate::straight::hand::Hand;
-use crate::straight::llx::load;
-use crate::straight::node::Reached;
 use crate::straight::step::step;
 use crate::view::SeatView;
-use arena::{
-    Kind, Layout, Machine, NodeNo, PassNo, ScxNo, ScxWord, Shape, Share, Step, Turn, Word,
-};
+use arena::{Layout, Machine, PassNo, ScxNo, Shape, Share, Step, Turn};
 use atomic_table::Seat;
 use edits::{Edit, Next, Stop, UpdateAt, UpdateRun, Updated, copied};
 use help::HelpRun;
-use prims::{LlxAt, LlxRun};
 use std::mem::replace;
-use template::{Found, Goal, WalkAt, WalkRun, Way};
+use template::Found;
 
 /// Takes an update out, to be put at a place. Until it is put back, another replaces it, whose
 /// share nobody takes from: that of some pass, since a share is always one's.
@@ -66,67 +60,48 @@ fn finish<S: Shape, M: Machine<S>, E: Edit + Copy>(
     }
 }
 
-/// Makes the rest of an update from its look at its guard on, where something is in the way of that.
+/// Makes the rest of an update from this place on, where it waits for this step.
 #[cold]
 #[inline(never)]
-fn rest_from_guard<S: Shape, M: Machine<S>, E: Edit + Copy>(
+fn rest_from<S: Shape, M: Machine<S>, E: Edit + Copy>(
     hand: Hand<S>,
     seat: &mut Seat<u8, SeatView>,
     machine: UpdateRun<E, UpdateAt>,
-    walk: WalkRun,
-    head: u64,
-    llx: LlxRun,
+    at: UpdateAt,
     asked: Step,
 ) -> (Updated, UpdateRun<E, ()>)
     requires table { IsAt hand seat.old }
     requires waits { (u : Updater (hand_calls S.Shape M.Machine hand) E.means)
-        × HostedWaits u seat.old.me.0.passes (standing machine (Places.Guard walk head llx)) asked }
-    ensures { Leads seat.old seat.new (suc (update_left E.means
-        (standing machine (Places.Guard walk head llx)) (shared_nodes hand.entry.layout.now)))
+        × HostedWaits u seat.old.me.0.passes (standing machine at) asked }
+    ensures { Leads seat.old seat.new (suc (update_left E.means (standing machine at)
+        (shared_nodes hand.entry.layout.now)))
         (λ (u : Updater (hand_calls S.Shape M.Machine hand.entry) E.means) ps.
-        HostedWaits u ps (standing machine (Places.Guard walk head llx)) asked)
+        HostedWaits u ps (standing machine at) asked)
         (λ u ps. UpdaterEnds u ps result.1 result.0) }
 {
-    let machine = machine.placed_at(UpdateAt::Guard { walk, head, llx });
-    finish::<S, M, E>(hand, seat, machine, Turn::Ask(asked))
+    finish::<S, M, E>(hand, seat, machine.placed_at(at), Turn::Ask(asked))
 }
 
-/// Makes the rest of an update whose walk, by this way to this goal, has found this as the head of the
-/// root, where something is in the way of the look at its guard: with this SCX-record the guard was
-/// marked or not, whose state is asked for again.
+/// Puts an update at this place, where it waits for this step, and makes the rest of it from there.
 #[inline(always)]
-pub(crate) fn from_guard<S: Shape, M: Machine<S>, E: Edit + Copy>(
+pub(crate) fn from_place<S: Shape, M: Machine<S>, E: Edit + Copy>(
     hand: Hand<S>,
     seat: &mut Seat<u8, SeatView>,
     run: &mut UpdateRun<E, ()>,
-    way: Way,
-    goal: Goal,
-    head: u64,
-    marked: bool,
-    scx: ScxNo,
+    at: UpdateAt,
+    asked: Step,
 ) -> Updated
     requires table { IsAt hand seat.old }
     requires waits { (u : Updater (hand_calls S.Shape M.Machine hand) E.means)
-        × UpdaterGuardsAgain u seat.old.me.0.passes run.old way goal head marked scx }
-    ensures { Leads seat.old seat.new (left_at_guard E.means run.old way goal head marked scx
-        (shared_nodes hand.entry.layout.now))
+        × HostedWaits u seat.old.me.0.passes (standing run.old at) asked }
+    ensures { Leads seat.old seat.new (suc (update_left E.means (standing run.old at)
+        (shared_nodes hand.entry.layout.now)))
         (λ (u : Updater (hand_calls S.Shape M.Machine hand.entry) E.means) ps.
-        UpdaterGuardsAgain u ps run.old way goal head marked scx)
+        HostedWaits u ps (standing run.old at) asked)
         (λ u ps. UpdaterEnds u ps run.new result) }
 {
     let machine = take_run(run, hand.layout);
-    let trail = Reached::root().trail;
-    let at = WalkAt::Root;
-    let walk = WalkRun {
-        goal,
-        way,
-        trail,
-        at,
-    };
-    let (node, at) = (NodeNo(2), LlxAt::StateAgain { marked, scx });
-    let llx = LlxRun { node, at };
-    let asked = load(Kind::LoadState, Word::Scx(scx, ScxWord::State));
-    let (updated, rest) = rest_from_guard::<S, M, E>(hand, seat, machine, walk, head, llx, asked);
+    let (updated, rest) = rest_from::<S, M, E>(hand, seat, machine, at, asked);
     *run = rest;
     updated
 }

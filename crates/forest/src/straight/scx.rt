@@ -230,13 +230,6 @@ pub(crate) fn call<S: Shape, M: Machine<S>, T: Shape, L: SnapList>(
     ensures left { result ≡ false → steps_made seat.new + suc (help_left help.new.at)
         ≤ steps_made seat.old + 34 }
 {
-    let layout = *hand.layout;
-    let hand = Hand {
-        words: hand.words,
-        layout: &layout,
-        number: hand.number,
-        size: hand.size,
-    };
     let start = hand.layout.scx_start(change.scx);
     fill_all::<S, M, T, L>(hand, seat, snaps, change, start);
     helps::call::<S, M, T>(hand, seat, start, help)

@@ -17,16 +17,16 @@ new-update-requires-clause-distinct c = apart_at c.args.snaps.now c.requires.may
 pub new-update-requires-clause-among : goal.new-update-requires-clause-among
 new-update-requires-clause-among c = among_at c.args.snaps.now c.args.field.0.0 c.requires.may.2
 
--- what is to be put
-abbrev put_of : goal.After-call-arg-2-1 → PutTask
-put_of c = let u = c.new-update.result in record { plan = u.plan; old = u.old; fresh = u.fresh; value = c.args.value; scx = c.in-Ok.records.1 }
+-- what is to be put, in the call of this number
+abbrev put_of : goal.After-call-arg-2-1 → ℕ → PutTask
+put_of c number = let u = c.new-update.result in record { task = record { scx = c.in-Ok.records.1; call = number; plan = u.plan; old = u.old; fresh = u.fresh }; value = c.args.value }
 
 -- its update, over the caller's snapshots
 over_them : (u : Update) (snaps : List Snap) → u.snaps ≡ snaps → IsUpdateOver u → IsUpdateOver record { snaps = snaps; plan = u.plan; old = u.old; fresh = u.fresh }
 over_them u snaps is x = rw (← is) x
 
 -- the run that the call makes
-is_of : (c : goal.After-call-arg-2-1) (number : ℕ) → IsPutOver (fresh_put c.args.snaps.now (put_of c) number) c.args.snaps.now c.args.finalize.now (c.args.field.0.0, c.args.field.1) c.args.value c.pass.inside.share.next_node c.pass.inside.share.next_scx number
+is_of : (c : goal.After-call-arg-2-1) (number : ℕ) → IsPutOver (fresh_put c.args.snaps.now (put_of c number)) c.args.snaps.now c.args.finalize.now (c.args.field.0.0, c.args.field.1) c.args.value c.pass.inside.share.next_node c.pass.inside.share.next_scx number
 is_of c number = let u = c.new-update.ensures in let records = c.in-Ok.ensures.records in record {
   over = over_them c.new-update.result c.args.snaps.now u.snaps u.over;
   snaps_are = refl;
@@ -44,7 +44,7 @@ abbrev called : {T : Type 0} → Inside T → ℕ
 called p = taken_of (pass_view p)
 
 -- the call may begin
-begins : (c : goal.After-call-arg-2-1) (number : ℕ) → SeatPutBegins AllowsAll (call_of c.pass.inside c.pass.invariant number) c.pass.inside.seat.me.0.passes (fresh_put c.args.snaps.now (put_of c) number)
+begins : (c : goal.After-call-arg-2-1) (number : ℕ) → SeatPutBegins AllowsAll (call_of c.pass.inside c.pass.invariant number) c.pass.inside.seat.me.0.passes (fresh_put c.args.snaps.now (put_of c number))
 begins c number = let some = c.in-Ok.ensures.some in
     put_begins c.pass.inside c.pass.invariant some.0 some.1 c.args.snaps.now c.args.finalize.now (c.args.field.0.0, c.args.field.1) c.args.value number _ (is_of c number) refl refl (subst (λ (v : PassView). Each (CanUse v) c.args.snaps.now) (sym c.pass.view_is) c.requires.may.3)
 

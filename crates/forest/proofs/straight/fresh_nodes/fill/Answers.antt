@@ -14,4 +14,4 @@ pub returns-clause-goes_on : goal.returns-clause-goes_on
 returns-clause-goes_on g c = rw c.behind.ensures c.put.ensures.goes_on
 
 pub returns-clause-filled : goal.returns-clause-filled
-returns-clause-filled g c = filled_next c.args.piece.now c.args.part c.behind.result c.behind.ensures
+returns-clause-filled g c = filled_next c.args.node.piece.now c.args.part c.behind.result c.behind.ensures

@@ -29,15 +29,15 @@ step-head-requires-clause-waits g c = let r = c.requires.begins in let u = r.0 i
 pub look-requires-clause-waits : goal.look-requires-clause-waits
 look-requires-clause-waits g c = let r = c.requires.begins in (guard_looker r.0 c.args.run.now c.args.way c.args.goal c.step-head.result, looks g (goal.at.look-requires-clause-waits g c).After-step-head r.0 r.1)
 
-pub from_guard-requires-clause-waits : goal.from_guard-requires-clause-waits
-from_guard-requires-clause-waits g c = let r = c.requires.begins in let u = r.0 in
-    (u, guards_again u c.args.run.now c.args.way c.args.goal c.step-head.result _ c.in-Err.marked c.in-Err.scx (c.in-Err.ensures.waits (guard_looker u c.args.run.now c.args.way c.args.goal c.step-head.result) (looks g (goal.at.from_guard-requires-clause-waits g c).After-step-head u r.1)))
+pub from_place-requires-clause-waits : goal.from_place-requires-clause-waits
+from_place-requires-clause-waits g c = let r = c.requires.begins in let u = r.0 in
+    (u, rw c.again-at.ensures (guards_again u c.args.run.now c.args.way c.args.goal c.step-head.result _ c.in-Err.marked c.in-Err.scx (c.in-Err.ensures.waits (guard_looker u c.args.run.now c.args.way c.args.goal c.step-head.result) (looks g (goal.at.from_place-requires-clause-waits g c).After-step-head u r.1))))
 
 pub returns-in-Err-clause-ends : goal.returns-in-Err-clause-ends
 returns-in-Err-clause-ends g c = record {
-  table = (c.from_guard.ensures.table.0 ∙ c.look.ensures.table.0 ∙ c.step-head.ensures.table.0, c.from_guard.ensures.table.1 ∙ c.look.ensures.table.1 ∙ c.step-head.ensures.table.1);
-  to = λ u x. c.from_guard.ensures.to u (guards_again u c.args.run.now c.args.way c.args.goal c.step-head.result _ c.in-Err.marked c.in-Err.scx (c.in-Err.ensures.waits (guard_looker u c.args.run.now c.args.way c.args.goal c.step-head.result) (looks g (goal.at.returns-in-Err-clause-ends g c).After-step-head u x)));
-  steps = left_again g.E.Edit.means c.args.run.now c.args.way c.args.goal c.step-head.result c.in-Err.marked c.in-Err.scx (shared_nodes c.args.hand.layout.now) _ _ _ _ c.requires.goes.0 c.requires.guard c.step-head.ensures.one c.look.ensures.steps c.from_guard.ensures.steps;
+  table = (c.from_place.ensures.table.0 ∙ c.look.ensures.table.0 ∙ c.step-head.ensures.table.0, c.from_place.ensures.table.1 ∙ c.look.ensures.table.1 ∙ c.step-head.ensures.table.1);
+  to = λ u x. c.from_place.ensures.to u (rw c.again-at.ensures (guards_again u c.args.run.now c.args.way c.args.goal c.step-head.result _ c.in-Err.marked c.in-Err.scx (c.in-Err.ensures.waits (guard_looker u c.args.run.now c.args.way c.args.goal c.step-head.result) (looks g (goal.at.returns-in-Err-clause-ends g c).After-step-head u x))));
+  steps = left_again g.E.Edit.means c.args.run.now c.args.way c.args.goal c.step-head.result c.in-Err.marked c.in-Err.scx (shared_nodes c.args.hand.layout.now) _ _ _ _ c.requires.goes.0 c.requires.guard c.step-head.ensures.one c.look.ensures.steps (rw c.again-at.ensures at c.from_place.ensures.steps);
 }
 
 -- and behind its guard it goes down from the root

@@ -6,20 +6,20 @@ use Rattle.forest.proofs.StraightPut.{putter, begins_change, change_waits, put_d
 use Rattle.forest.proofs.straight.put.call.Goals as goal
 
 pub call-requires-clause-waits : goal.call-requires-clause-waits
-call-requires-clause-waits g c = let r = c.requires.begins in let change : ScxTask = record { scx = c.args.put.scx; call = c.args.hand.number; plan = c.args.put.plan; old = c.args.put.old; fresh = c.args.put.fresh } in
-    ((putter g.S.Shape.allows c.args.hand.layout.now c.args.hand.number r.0 r.1.0 r.1.1 (fresh_put c.args.snaps.now c.args.put c.args.hand.number)), begins_change g.S.Shape.allows c.args.hand.layout.now c.args.hand.number r.0 r.1.0 r.1.1 (fresh_put c.args.snaps.now c.args.put c.args.hand.number) _ (changing_at c.args.snaps.now change AtPlan) _ (c.fill_value.ensures.waits r.0 r.1 r.2))
+call-requires-clause-waits g c = let r = c.requires.begins in let change : ScxTask = c.args.put.task in
+    ((putter g.S.Shape.allows c.args.hand.layout.now c.args.hand.number r.0 r.1.0 r.1.1 (fresh_put c.args.snaps.now c.args.put)), begins_change g.S.Shape.allows c.args.hand.layout.now c.args.hand.number r.0 r.1.0 r.1.1 (fresh_put c.args.snaps.now c.args.put) _ (changing_at c.args.snaps.now change AtPlan) _ (c.fill_value.ensures.waits r.0 r.1 r.2))
 
 pub returns-then-call-clause-ends : goal.returns-then-call-clause-ends
-returns-then-call-clause-ends g c = λ k fits x. let change : ScxTask = record { scx = c.args.put.scx; call = c.args.hand.number; plan = c.args.put.plan; old = c.args.put.old; fresh = c.args.put.fresh } in
-    let t = (c.call.ensures.leads.to (putter g.S.Shape.allows c.args.hand.layout.now c.args.hand.number k fits.0 fits.1 (fresh_put c.args.snaps.now c.args.put c.args.hand.number)) (begins_change g.S.Shape.allows c.args.hand.layout.now c.args.hand.number k fits.0 fits.1 (fresh_put c.args.snaps.now c.args.put c.args.hand.number) _ (changing_at c.args.snaps.now change AtPlan) _ (c.fill_value.ensures.waits k fits x))).commits c.if-call.true in
-    (_, put_done g.S.Shape.allows c.args.hand.layout.now c.args.hand.number k fits.0 fits.1 (fresh_put c.args.snaps.now c.args.put c.args.hand.number) _ (changing_at c.args.snaps.now change AtPlan) c.call.new.help t.0 t.1)
+returns-then-call-clause-ends g c = λ k fits x. let change : ScxTask = c.args.put.task in
+    let t = (c.call.ensures.leads.to (putter g.S.Shape.allows c.args.hand.layout.now c.args.hand.number k fits.0 fits.1 (fresh_put c.args.snaps.now c.args.put)) (begins_change g.S.Shape.allows c.args.hand.layout.now c.args.hand.number k fits.0 fits.1 (fresh_put c.args.snaps.now c.args.put) _ (changing_at c.args.snaps.now change AtPlan) _ (c.fill_value.ensures.waits k fits x))).commits c.if-call.true in
+    (_, put_done g.S.Shape.allows c.args.hand.layout.now c.args.hand.number k fits.0 fits.1 (fresh_put c.args.snaps.now c.args.put) _ (changing_at c.args.snaps.now change AtPlan) c.call.new.help t.0 t.1)
 
 pub complete_blocked-requires-clause-waits : goal.complete_blocked-requires-clause-waits
-complete_blocked-requires-clause-waits g c = let r = c.requires.begins in let change : ScxTask = record { scx = c.args.put.scx; call = c.args.hand.number; plan = c.args.put.plan; old = c.args.put.old; fresh = c.args.put.fresh } in let u = (fresh_put c.args.snaps.now c.args.put c.args.hand.number) in
-    let x = change_waits g.S.Shape.allows c.args.hand.layout.now c.args.hand.number r.0 r.1.0 r.1.1 u _ (changing_at c.args.snaps.now change (Help c.call.new.help)) _ ((c.call.ensures.leads.to (putter g.S.Shape.allows c.args.hand.layout.now c.args.hand.number r.0 r.1.0 r.1.1 (fresh_put c.args.snaps.now c.args.put c.args.hand.number)) (begins_change g.S.Shape.allows c.args.hand.layout.now c.args.hand.number r.0 r.1.0 r.1.1 (fresh_put c.args.snaps.now c.args.put c.args.hand.number) _ (changing_at c.args.snaps.now change AtPlan) _ (c.fill_value.ensures.waits r.0 r.1 r.2))).blocked c.if-call.false) in
+complete_blocked-requires-clause-waits g c = let r = c.requires.begins in let change : ScxTask = c.args.put.task in let u = (fresh_put c.args.snaps.now c.args.put) in
+    let x = change_waits g.S.Shape.allows c.args.hand.layout.now c.args.hand.number r.0 r.1.0 r.1.1 u _ (changing_at c.args.snaps.now change (Help c.call.new.help)) _ ((c.call.ensures.leads.to (putter g.S.Shape.allows c.args.hand.layout.now c.args.hand.number r.0 r.1.0 r.1.1 (fresh_put c.args.snaps.now c.args.put)) (begins_change g.S.Shape.allows c.args.hand.layout.now c.args.hand.number r.0 r.1.0 r.1.1 (fresh_put c.args.snaps.now c.args.put) _ (changing_at c.args.snaps.now change AtPlan) _ (c.fill_value.ensures.waits r.0 r.1 r.2))).blocked c.if-call.false) in
     (r.0, u, r.1, x)
 
 pub returns-clause-ends : goal.returns-clause-ends
-returns-clause-ends g c = λ k fits x. let change : ScxTask = record { scx = c.args.put.scx; call = c.args.hand.number; plan = c.args.put.plan; old = c.args.put.old; fresh = c.args.put.fresh } in let u = (fresh_put c.args.snaps.now c.args.put c.args.hand.number) in
-    let y = change_waits g.S.Shape.allows c.args.hand.layout.now c.args.hand.number k fits.0 fits.1 u _ (changing_at c.args.snaps.now change (Help c.call.new.help)) _ ((c.call.ensures.leads.to (putter g.S.Shape.allows c.args.hand.layout.now c.args.hand.number k fits.0 fits.1 (fresh_put c.args.snaps.now c.args.put c.args.hand.number)) (begins_change g.S.Shape.allows c.args.hand.layout.now c.args.hand.number k fits.0 fits.1 (fresh_put c.args.snaps.now c.args.put c.args.hand.number) _ (changing_at c.args.snaps.now change AtPlan) _ (c.fill_value.ensures.waits k fits x))).blocked c.if-call.false) in
+returns-clause-ends g c = λ k fits x. let change : ScxTask = c.args.put.task in let u = (fresh_put c.args.snaps.now c.args.put) in
+    let y = change_waits g.S.Shape.allows c.args.hand.layout.now c.args.hand.number k fits.0 fits.1 u _ (changing_at c.args.snaps.now change (Help c.call.new.help)) _ ((c.call.ensures.leads.to (putter g.S.Shape.allows c.args.hand.layout.now c.args.hand.number k fits.0 fits.1 (fresh_put c.args.snaps.now c.args.put)) (begins_change g.S.Shape.allows c.args.hand.layout.now c.args.hand.number k fits.0 fits.1 (fresh_put c.args.snaps.now c.args.put) _ (changing_at c.args.snaps.now change AtPlan) _ (c.fill_value.ensures.waits k fits x))).blocked c.if-call.false) in
     c.complete_blocked.ensures.ends k u fits y
