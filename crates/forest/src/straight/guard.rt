@@ -10,13 +10,14 @@ ghost use Rattle.edits.specs.Next.{standing};
 ghost use Rattle.edits.specs.Steps.{update_left};
 ghost use Rattle.edits.specs.declared.update.UpdateAt.{UpdateAt};
 
+use crate::call_machine::CallMachine;
 use crate::straight::hand::Hand;
 use crate::straight::llx::{load, look};
 use crate::straight::node::{Reached, descend};
 use crate::straight::resume;
 use crate::straight::step::step;
 use crate::view::SeatView;
-use arena::{Kind, Machine, NodeNo, NodeWord, SettledPart, Shape, Side, Word};
+use arena::{Kind, NodeNo, NodeWord, SettledPart, Shape, Side, Word};
 use atomic_table::Seat;
 use edits::{Edit, UpdateRun, Updated};
 use template::{Goal, Tree, Way};
@@ -24,7 +25,7 @@ use template::{Goal, Tree, Way};
 /// Looks at the guard of an edit, between the loads of the root's head and of its child, and keeps
 /// its snapshot. If something is in the way, its machine continues from there.
 #[inline(always)]
-fn pass<S: Shape, M: Machine<S>, E: Edit + Copy>(
+fn pass<S: Shape, M: CallMachine<S>, E: Edit + Copy>(
     hand: Hand<S>,
     seat: &mut Seat<u8, SeatView>,
     run: &mut UpdateRun<E, ()>,
@@ -61,7 +62,7 @@ fn pass<S: Shape, M: Machine<S>, E: Edit + Copy>(
 /// The place from which an update walks, behind its guard if it has one. If something is in the way
 /// there, its machine continues, and it has answered.
 #[inline(always)]
-pub(crate) fn begin<S: Shape, M: Machine<S>, E: Edit + Copy>(
+pub(crate) fn begin<S: Shape, M: CallMachine<S>, E: Edit + Copy>(
     hand: Hand<S>,
     seat: &mut Seat<u8, SeatView>,
     run: &mut UpdateRun<E, ()>,

@@ -10,14 +10,13 @@ ghost use Rattle.edits.specs.Next.{standing};
 ghost use Rattle.edits.specs.Steps.{update_left};
 ghost use Rattle.edits.specs.declared.update.UpdateAt.{UpdateAt as Places};
 
+use crate::call_machine::CallMachine;
 use crate::straight::hand::Hand;
 use crate::straight::llx::load;
 use crate::straight::node::Reached;
 use crate::straight::step::step;
 use crate::view::SeatView;
-use arena::{
-    Kind, Layout, Machine, NodeNo, PassNo, ScxNo, ScxWord, Shape, Share, Step, Turn, Word,
-};
+use arena::{Kind, Layout, NodeNo, PassNo, ScxNo, ScxWord, Shape, Share, Step, Turn, Word};
 use atomic_table::Seat;
 use edits::{Edit, Next, Stop, UpdateAt, UpdateRun, Updated, copied};
 use help::HelpRun;
@@ -38,7 +37,7 @@ fn take_run<E: Edit + Copy>(run: &mut UpdateRun<E, ()>, layout: &Layout) -> Upda
 }
 
 /// Makes the rest of an update from this turn of its machine on, and gives it back without a place.
-fn finish<S: Shape, M: Machine<S>, E: Edit + Copy>(
+fn finish<S: Shape, M: CallMachine<S>, E: Edit + Copy>(
     hand: Hand<S>,
     seat: &mut Seat<u8, SeatView>,
     mut machine: UpdateRun<E, UpdateAt>,
@@ -69,7 +68,7 @@ fn finish<S: Shape, M: Machine<S>, E: Edit + Copy>(
 /// Makes the rest of an update from its look at its guard on, where something is in the way of that.
 #[cold]
 #[inline(never)]
-fn rest_from_guard<S: Shape, M: Machine<S>, E: Edit + Copy>(
+fn rest_from_guard<S: Shape, M: CallMachine<S>, E: Edit + Copy>(
     hand: Hand<S>,
     seat: &mut Seat<u8, SeatView>,
     machine: UpdateRun<E, UpdateAt>,
@@ -95,7 +94,7 @@ fn rest_from_guard<S: Shape, M: Machine<S>, E: Edit + Copy>(
 /// root, where something is in the way of the look at its guard: with this SCX-record the guard was
 /// marked or not, whose state is asked for again.
 #[inline(always)]
-pub(crate) fn from_guard<S: Shape, M: Machine<S>, E: Edit + Copy>(
+pub(crate) fn from_guard<S: Shape, M: CallMachine<S>, E: Edit + Copy>(
     hand: Hand<S>,
     seat: &mut Seat<u8, SeatView>,
     run: &mut UpdateRun<E, ()>,
@@ -134,7 +133,7 @@ pub(crate) fn from_guard<S: Shape, M: Machine<S>, E: Edit + Copy>(
 /// Makes the rest of an update from what its try does next on.
 #[cold]
 #[inline(never)]
-fn rest_from_next<S: Shape, M: Machine<S>, E: Edit + Copy>(
+fn rest_from_next<S: Shape, M: CallMachine<S>, E: Edit + Copy>(
     hand: Hand<S>,
     seat: &mut Seat<u8, SeatView>,
     mut machine: UpdateRun<E, UpdateAt>,
@@ -161,7 +160,7 @@ fn rest_from_next<S: Shape, M: Machine<S>, E: Edit + Copy>(
 /// Makes the rest of an update from what its try does next on. Inlined, it copies the leaf,
 /// since the compiler keeps in registers only what is handed to no function out of line.
 #[inline(always)]
-pub(crate) fn from_next<S: Shape, M: Machine<S>, E: Edit + Copy>(
+pub(crate) fn from_next<S: Shape, M: CallMachine<S>, E: Edit + Copy>(
     hand: Hand<S>,
     seat: &mut Seat<u8, SeatView>,
     run: &mut UpdateRun<E, ()>,
@@ -182,7 +181,7 @@ pub(crate) fn from_next<S: Shape, M: Machine<S>, E: Edit + Copy>(
 /// Makes the rest of an update whose SCX could not freeze a node.
 #[cold]
 #[inline(never)]
-fn rest_from_block<S: Shape, M: Machine<S>, E: Edit + Copy>(
+fn rest_from_block<S: Shape, M: CallMachine<S>, E: Edit + Copy>(
     hand: Hand<S>,
     seat: &mut Seat<u8, SeatView>,
     mut machine: UpdateRun<E, UpdateAt>,
@@ -205,7 +204,7 @@ fn rest_from_block<S: Shape, M: Machine<S>, E: Edit + Copy>(
 
 /// Makes the rest of an update whose SCX could not freeze a node, with copies as above.
 #[inline(always)]
-pub(crate) fn from_block<S: Shape, M: Machine<S>, E: Edit + Copy>(
+pub(crate) fn from_block<S: Shape, M: CallMachine<S>, E: Edit + Copy>(
     hand: Hand<S>,
     seat: &mut Seat<u8, SeatView>,
     run: &mut UpdateRun<E, ()>,
