@@ -4,6 +4,8 @@ use Rattle.histories.specs.Common.{Layout, Row, Step, Turn, Ask, Done, IsWord, H
 use Rattle.arena.proofs.Lemmas.{taken_few}
 use Rattle.histories.proofs.Lemmas.{lawful_row}
 use Rattle.planting.specs.Plantings.{PlantingView}
+use Rattle.touching.specs.Steps.{IsMapStep}
+use Rattle.forest.specs.CallSteps.{IsOfMapCall}
 use Rattle.forest.specs.declared.rule.CallStep.{CallStep}
 use Rattle.forest.specs.declared.view.SeatedPass.{SeatedPass}
 use Rattle.forest.specs.TableRule.{history_of, past_of, seated_pass, ByOthers, MayStep, Made, row}
@@ -45,6 +47,20 @@ module _ (allows : Layout → History → ℕ → Type 0) (c : Call) (said : Cal
     seated_pass c.pass c.layout x.planting x.known,
     x.is,
     λ rows by run. subst (λ r. IsRun allows c.layout (r ⊳ history_of x.planting (rows ++ x.known))) (row_is (history_of x.planting (rows ++ x.known))) (lawful (history_of x.planting (rows ++ x.known)) run (keeps_all allows c.layout c.pass waits x.planting keeps rows x.known by run x.so)),
+  )
+
+  -- in a map it is one of a map's call
+  pub of_map_call : (ps : List SeatedPass) (waits : History → Type 0) → ((h : History) (r : Row) → IsRun allows c.layout (r ⊳ h) → r.pass.0 ≢ c.pass → waits h → waits (r ⊳ h)) → ((h : History) → waits h → IsMapStep c h (row_of c said.step h)) → HoldsForCall allows ps c waits → (p : SeatedPass) × (ps ≡ p ∷ []) × IsOfMapCall allows said p
+  of_map_call ps waits keeps steps x = (
+    seated_pass c.pass c.layout x.planting x.known,
+    x.is,
+    record {
+      call = c;
+      layout = refl;
+      pass = refl;
+      number = called;
+      step = λ rows by run. let h : History = history_of x.planting (rows ++ x.known) in subst (λ r. IsMapStep c h r) (row_is h) (steps h (keeps_all allows c.layout c.pass waits x.planting keeps rows x.known by run x.so));
+    },
   )
 
   -- its word is one of the table

@@ -15,7 +15,7 @@ use Rattle.forest.specs.declared.view.SeatView.{SeatView}
 use Rattle.forest.specs.TableRule.{history_of, past_of, seated_pass, seat_view, Owns, TableIsLawful, MayStep, Made, Looked, look, row}
 
 -- a row of another seat leaves the passes of a seat where they are
-owns_more : (plot : Plot) (run : List Row) (owner : ℕ → ℕ) (id : ℕ) (r : Row) → owner r.pass.0 ≢ id → (ps : List SeatedPass) → Owns plot run owner id ps → Owns plot (r ∷ run) owner id ps
+pub owns_more : (plot : Plot) (run : List Row) (owner : ℕ → ℕ) (id : ℕ) (r : Row) → owner r.pass.0 ≢ id → (ps : List SeatedPass) → Owns plot run owner id ps → Owns plot (r ∷ run) owner id ps
 owns_more plot run owner id r ne [] h = tt
 owns_more plot run owner id r ne (p ∷ ps) h = (
   h.0,

@@ -16,6 +16,7 @@ pub mod StraightCalls
 pub mod StraightReads
 pub mod Traces
 pub mod CallKinds
+pub mod CallSteps
 pub mod Hands
 pub mod Inside
 pub mod Hosts

@@ -19,7 +19,6 @@ ghost use Rattle.forest.specs.JoinedSeats.{IsFrom, AreIn};
 
 use crate::forest::Forest;
 use crate::pass::Pass;
-use crate::rule::CallStep;
 use crate::view::SeatView;
 use crate::words::Words;
 use arena::{
@@ -32,7 +31,7 @@ use ordered_map::spelled;
 use prims::Cells;
 use std::alloc::Global;
 use std::fmt;
-use std::marker::{Brand, Model, PhantomData};
+use std::marker::{Model, PhantomData};
 use template::FixedBalance;
 
 /// The words of a forest that no thread shares any more.
@@ -263,12 +262,6 @@ fn seat_of<S: Shape>(words: &Words<S>, layout: &Layout, pass: Pass<S>) -> Seat<u
         shape: _,
     } = pass;
     let mut seat = seat;
-    let step = Step {
-        kind: Kind::LoadSettled,
-        word: Word::Node(NodeNo(0), NodeWord::Settled(SettledPart::Head)),
-        access: Access::Load,
-    };
-    let asked = CallStep { call: 0, step };
-    words.make::<Brand>(&mut seat, &asked, layout.place(step.word));
+    words.look_alone(layout, &mut seat);
     seat
 }

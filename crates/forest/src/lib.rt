@@ -4,6 +4,7 @@
 mod balance;
 mod beginning;
 mod blamed;
+mod call_machine;
 mod close;
 mod dictionary;
 mod fault;

@@ -1,22 +1,24 @@
 //! The words of the table, and all that touches them while threads share them: a step, which adds
 //! one row to the run, and the moves by which seats are split and joined, which show nothing.
 //! Nothing else can be written outside this module, so that a call's rows are all that it has done.
-ghost use Rattle.std.specs.Prelude.{◌≡◌, ◌<◌, ◌++◌, [], ◌∷◌, IfOk};
+ghost use Rattle.std.specs.Prelude.{◌≡◌, ◌<◌, ◌++◌, ℕ, [], ◌∷◌, IfOk};
 ghost use Rattle.std.specs.Slots.{IsFull, slots_len, slots_items};
 ghost use Rattle.atomic_table.specs.Table.{Final, Seen};
 ghost use Rattle.arena.specs.History.{Opened};
-ghost use Rattle.arena.specs.Layout.{table_size};
+ghost use Rattle.arena.specs.Layout.{IsMap, table_size};
 ghost use Rattle.arena.specs.Machines.{IsRun};
 ghost use Rattle.planting.specs.Plantings.{opening_for};
 ghost use Rattle.forest.specs.declared.view.SeatedPass.{SeatedPass};
+ghost use Rattle.forest.specs.CallSteps.{IsOfMapCall};
 ghost use Rattle.forest.specs.Seats.{IsSeatAt, StaysAtTable};
-ghost use Rattle.forest.specs.TableRule.{IsPlaceOf, IsTableOf, TableIsLawful, MayStep, Made, Looked, new_passes, rest_of, first_of};
+ghost use Rattle.forest.specs.TableRule.{IsPlaceOf, IsTableOf, TableIsLawful, MayStep, Made, Looked, look, new_passes, rest_of, first_of};
 
 use crate::rule::{Both, CallStep, Deal, Lawful, Looks, Makes, Plot, Says};
 use crate::view::SeatView;
 use arena::{Access, Layout, NoMemory, NodeNo, NodeWord, SettledPart, Shape, Word};
 use atomic_table::{Closed, Seat, Table};
 use std::alloc::Global;
+use std::marker::Brand;
 
 /// A table of words under the rule that some lawful run has left them.
 #[derive(Drop)]
@@ -46,7 +48,8 @@ impl<S: Shape> Words<S> {
         Ok((Words { table }, seat))
     }
 
-    /// Makes the step that is said, which is at this place, and answers what a machine gets of it.
+    /// Makes the step of a call that is said, which is at this place, and answers what a machine gets
+    /// of it. The rule of this table does not ask of which call it is.
     #[inline(always)]
     pub(crate) fn make<J: Says>(
         &self,
@@ -60,6 +63,8 @@ impl<S: Shape> Words<S> {
         requires place { IsPlaceOf self.now.table.shared.key.layout said.now.step.word at }
         requires may { (p : SeatedPass) × (seat.old.me.0.passes ≡ p ∷ [])
             × MayStep S.allows said.now p }
+        requires of_call { IsMap S.mode → (p : SeatedPass) × (seat.old.me.0.passes ≡ p ∷ [])
+            × IsOfMapCall S.allows said.now p }
         ensures table { StaysAtTable seat.old seat.new }
         ensures made { Made S.allows said.now seat.old.me.0.passes result seat.new.me.0.passes }
     {
@@ -74,6 +79,19 @@ impl<S: Shape> Words<S> {
                 shared.compare_exchange::<Makes<S, J>>(seat, at, expected, new)
             }
         }
+    }
+
+    /// A look at the table by the only pass of a seat, which is no step of a call.
+    pub(crate) fn look_alone(&self, layout: &Layout, seat: &mut Seat<u8, SeatView>)
+        requires table { IsSeatAt self.now layout.now seat.old }
+        requires one { (p : SeatedPass) × (seat.old.me.0.passes ≡ p ∷ [])
+            × (p.layout ≡ layout.now) × (p.number.0 < layout.now.passes) }
+        ensures table { StaysAtTable seat.old seat.new }
+        ensures looked { (n : ℕ) × Made S.allows look seat.old.me.0.passes n seat.new.me.0.passes }
+    {
+        let head = Word::Node(NodeNo(0), NodeWord::Settled(SettledPart::Head));
+        let at = layout.place(head);
+        self.table.shared.load::<Makes<S, Brand>>(seat, at);
     }
 
     /// A look at the table by the first of two passes of a seat, which is then the second.

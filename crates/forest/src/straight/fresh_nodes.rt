@@ -8,10 +8,11 @@ ghost use Rattle.forest.specs.StraightUpdate.{FillGoesOn, IsFreshPiece, StandsTo
 ghost use Rattle.edits.specs.Pieces.{is_filled, is_leaf_piece, part_behind, word_of};
 ghost use Rattle.edits.specs.declared.update.Next.{Next};
 
+use crate::call_machine::CallMachine;
 use crate::straight::hand::Hand;
 use crate::straight::step::step_from;
 use crate::view::SeatView;
-use arena::{Access, Kind, Machine, NodeNo, NodeWord, SettledPart, Shape, Slot, Step, Word};
+use arena::{Access, Kind, NodeNo, NodeWord, SettledPart, Shape, Slot, Step, Word};
 use atomic_table::Seat;
 use edits::{Edit, Next, Nth, Piece, Stop, UpdateRun};
 use template::Found;
@@ -39,7 +40,7 @@ struct FreshNode<'a> {
 
 /// Stores what a word of the fresh node of this place is to hold.
 #[inline(always)]
-fn put<S: Shape, M: Machine<S>, E: Edit + Copy>(
+fn put<S: Shape, M: CallMachine<S>, E: Edit + Copy>(
     hand: Hand<S>,
     seat: &mut Seat<u8, SeatView>,
     run: &UpdateRun<E, ()>,
@@ -66,7 +67,7 @@ fn put<S: Shape, M: Machine<S>, E: Edit + Copy>(
 /// Fills a word of the fresh node of this place, and returns the word that is filled next, if one
 /// is.
 #[inline(always)]
-fn fill<S: Shape, M: Machine<S>, E: Edit + Copy>(
+fn fill<S: Shape, M: CallMachine<S>, E: Edit + Copy>(
     hand: Hand<S>,
     seat: &mut Seat<u8, SeatView>,
     run: &UpdateRun<E, ()>,
@@ -91,7 +92,7 @@ fn fill<S: Shape, M: Machine<S>, E: Edit + Copy>(
 /// Fills the pair in this slot of a leaf: its key, and what of its value is to be filled. Where its
 /// caller knows the slot, so does the compiler.
 #[inline(always)]
-fn fill_pair<S: Shape, M: Machine<S>, E: Edit + Copy>(
+fn fill_pair<S: Shape, M: CallMachine<S>, E: Edit + Copy>(
     hand: Hand<S>,
     seat: &mut Seat<u8, SeatView>,
     run: &UpdateRun<E, ()>,
@@ -125,7 +126,7 @@ fn fill_pair<S: Shape, M: Machine<S>, E: Edit + Copy>(
 
 /// Fills the count of the pairs, where that is the word that is filled next.
 #[inline(always)]
-fn fill_more<S: Shape, M: Machine<S>, E: Edit + Copy>(
+fn fill_more<S: Shape, M: CallMachine<S>, E: Edit + Copy>(
     hand: Hand<S>,
     seat: &mut Seat<u8, SeatView>,
     run: &UpdateRun<E, ()>,
@@ -153,7 +154,7 @@ fn fill_more<S: Shape, M: Machine<S>, E: Edit + Copy>(
 
 /// Fills the pair in this slot, where its key is the word that is filled next.
 #[inline(always)]
-fn fill_next_pair<S: Shape, M: Machine<S>, E: Edit + Copy>(
+fn fill_next_pair<S: Shape, M: CallMachine<S>, E: Edit + Copy>(
     hand: Hand<S>,
     seat: &mut Seat<u8, SeatView>,
     run: &UpdateRun<E, ()>,
@@ -180,7 +181,7 @@ fn fill_next_pair<S: Shape, M: Machine<S>, E: Edit + Copy>(
 
 /// Fills the pairs of a leaf, where the key of the first is the word that is filled next.
 #[inline(always)]
-fn fill_pairs<S: Shape, M: Machine<S>, E: Edit + Copy>(
+fn fill_pairs<S: Shape, M: CallMachine<S>, E: Edit + Copy>(
     hand: Hand<S>,
     seat: &mut Seat<u8, SeatView>,
     run: &UpdateRun<E, ()>,
@@ -204,7 +205,7 @@ fn fill_pairs<S: Shape, M: Machine<S>, E: Edit + Copy>(
 
 /// Fills the fresh node of this place.
 #[inline(always)]
-pub(crate) fn fill_node<S: Shape, M: Machine<S>, E: Edit + Copy>(
+pub(crate) fn fill_node<S: Shape, M: CallMachine<S>, E: Edit + Copy>(
     hand: Hand<S>,
     seat: &mut Seat<u8, SeatView>,
     run: &mut UpdateRun<E, ()>,

@@ -12,15 +12,14 @@ ghost use Rattle.edits.specs.declared.update.UpdateAt.{UpdateAt as Places};
 ghost use Rattle.histories.specs.Common.{LoadState, state};
 ghost use Rattle.template.specs.Common.{load};
 
+use crate::call_machine::CallMachine;
 use crate::straight::hand::Hand;
 use crate::straight::llx::{load, look};
 use crate::straight::node::{Reached, descend};
 use crate::straight::resume;
 use crate::straight::step::step;
 use crate::view::SeatView;
-use arena::{
-    Kind, Machine, NodeNo, NodeWord, ScxNo, ScxWord, SettledPart, Shape, Side, Step, Word,
-};
+use arena::{Kind, NodeNo, NodeWord, ScxNo, ScxWord, SettledPart, Shape, Side, Step, Word};
 use atomic_table::Seat;
 use edits::{Edit, UpdateAt, UpdateRun, Updated};
 use prims::{LlxAt, LlxRun};
@@ -49,7 +48,7 @@ fn again(way: Way, goal: Goal, head: u64, marked: bool, scx: ScxNo) -> (UpdateAt
 /// Looks at the guard of an edit, between the loads of the root's head and of its child, and keeps
 /// its snapshot. If something is in the way, its machine continues from there.
 #[inline(always)]
-fn pass<S: Shape, M: Machine<S>, E: Edit + Copy>(
+fn pass<S: Shape, M: CallMachine<S>, E: Edit + Copy>(
     hand: Hand<S>,
     seat: &mut Seat<u8, SeatView>,
     run: &mut UpdateRun<E, ()>,
@@ -87,7 +86,7 @@ fn pass<S: Shape, M: Machine<S>, E: Edit + Copy>(
 /// The place from which an update walks, behind its guard if it has one. If something is in the way
 /// there, its machine continues, and it has answered.
 #[inline(always)]
-pub(crate) fn begin<S: Shape, M: Machine<S>, E: Edit + Copy>(
+pub(crate) fn begin<S: Shape, M: CallMachine<S>, E: Edit + Copy>(
     hand: Hand<S>,
     seat: &mut Seat<u8, SeatView>,
     run: &mut UpdateRun<E, ()>,

@@ -10,19 +10,19 @@ ghost use Rattle.forest.specs.Leads.{Leads, steps_made};
 ghost use Rattle.forest.specs.StraightHelp.{Helper, HelperMarks, IsBehindFreeze, IsBehindFreezes, IsBehindHelp, LoadsMember, LoadsPlan, SetsFlag, inner_help};
 ghost use Rattle.forest.specs.Inside.{InnerIsTold, InnerWaits};
 
+use crate::call_machine::CallMachine;
 use crate::straight::hand::Hand;
 use crate::straight::step::step_from;
 use crate::view::SeatView;
 use arena::{
-    Access, COMMITTED, Kind, Machine, MemberIndex, NodeNo, NodeWord, Plan, ScxNo, ScxWord, Shape,
-    Step, Word,
+    Access, COMMITTED, Kind, MemberIndex, NodeNo, NodeWord, Plan, ScxNo, ScxWord, Shape, Step, Word,
 };
 use atomic_table::Seat;
 use help::{HelpAt, HelpRun};
 
 /// Makes the step that a HELP waits for, on a word whose node or SCX-record begins there.
 #[inline(always)]
-fn act_on<S: Shape, M: Machine<S>, T: Shape>(
+fn act_on<S: Shape, M: CallMachine<S>, T: Shape>(
     hand: Hand<S>,
     seat: &mut Seat<u8, SeatView>,
     start: usize,
@@ -42,7 +42,7 @@ fn act_on<S: Shape, M: Machine<S>, T: Shape>(
 
 /// Makes the step that a HELP waits for, on a word of a node.
 #[inline(always)]
-fn act<S: Shape, M: Machine<S>, T: Shape>(
+fn act<S: Shape, M: CallMachine<S>, T: Shape>(
     hand: Hand<S>,
     seat: &mut Seat<u8, SeatView>,
     node: NodeNo,
@@ -63,7 +63,7 @@ fn act<S: Shape, M: Machine<S>, T: Shape>(
 
 /// Loads a settled word of the SCX-record, which begins there.
 #[inline(always)]
-fn read<S: Shape, M: Machine<S>, T: Shape>(
+fn read<S: Shape, M: CallMachine<S>, T: Shape>(
     hand: Hand<S>,
     seat: &mut Seat<u8, SeatView>,
     scx: ScxNo,
@@ -94,7 +94,7 @@ fn is_frozen(found: u64, seen: u64, scx: ScxNo) -> bool
 /// Freezes the node of this place of an SCX-record that begins there and whose plan has been read;
 /// returns whether it is frozen.
 #[inline(always)]
-fn freeze<S: Shape, M: Machine<S>, T: Shape>(
+fn freeze<S: Shape, M: CallMachine<S>, T: Shape>(
     hand: Hand<S>,
     seat: &mut Seat<u8, SeatView>,
     start: usize,
@@ -133,7 +133,7 @@ fn freeze<S: Shape, M: Machine<S>, T: Shape>(
 
 /// Freezes the nodes of an SCX-record whose plan has been read; returns whether all are frozen.
 #[inline(always)]
-fn freeze_all<S: Shape, M: Machine<S>, T: Shape>(
+fn freeze_all<S: Shape, M: CallMachine<S>, T: Shape>(
     hand: Hand<S>,
     seat: &mut Seat<u8, SeatView>,
     start: usize,
@@ -175,7 +175,7 @@ fn freeze_all<S: Shape, M: Machine<S>, T: Shape>(
 
 /// Marks the node of this place, if the SCX-record, whose flag is set, finalizes it.
 #[inline(always)]
-fn mark<S: Shape, M: Machine<S>, T: Shape>(
+fn mark<S: Shape, M: CallMachine<S>, T: Shape>(
     hand: Hand<S>,
     seat: &mut Seat<u8, SeatView>,
     run: &HelpRun,
@@ -198,7 +198,7 @@ fn mark<S: Shape, M: Machine<S>, T: Shape>(
 
 /// Marks those nodes of an SCX-record whose flag is set that it finalizes.
 #[inline(always)]
-fn mark_all<S: Shape, M: Machine<S>, T: Shape>(
+fn mark_all<S: Shape, M: CallMachine<S>, T: Shape>(
     hand: Hand<S>,
     seat: &mut Seat<u8, SeatView>,
     run: &HelpRun,
@@ -222,7 +222,7 @@ fn mark_all<S: Shape, M: Machine<S>, T: Shape>(
 /// whether all are frozen. If one could not be frozen the run waits to look whether all were.
 /// Each edit `E` has its own copy, which the compiler inlines.
 #[inline(always)]
-pub(crate) fn begin<S: Shape, M: Machine<S>, T: Shape, E>(
+pub(crate) fn begin<S: Shape, M: CallMachine<S>, T: Shape, E>(
     hand: Hand<S>,
     seat: &mut Seat<u8, SeatView>,
     start: usize,
@@ -246,7 +246,7 @@ pub(crate) fn begin<S: Shape, M: Machine<S>, T: Shape, E>(
 /// Commits an SCX-record whose nodes are frozen: sets its flag, marks the nodes that it finalizes,
 /// and changes its field.
 #[inline(always)]
-pub(crate) fn commit<S: Shape, M: Machine<S>, T: Shape>(
+pub(crate) fn commit<S: Shape, M: CallMachine<S>, T: Shape>(
     hand: Hand<S>,
     seat: &mut Seat<u8, SeatView>,
     start: usize,
@@ -279,7 +279,7 @@ pub(crate) fn commit<S: Shape, M: Machine<S>, T: Shape>(
 /// HELP of an SCX-record by a run that has not begun; returns whether it has committed. If a node
 /// could not be frozen the run waits to look whether all were.
 #[inline(always)]
-pub(crate) fn call<S: Shape, M: Machine<S>, T: Shape>(
+pub(crate) fn call<S: Shape, M: CallMachine<S>, T: Shape>(
     hand: Hand<S>,
     seat: &mut Seat<u8, SeatView>,
     start: usize,

@@ -14,10 +14,11 @@ ghost use Rattle.template.specs.Walk.Known.{open_side};
 ghost use Rattle.template.specs.Walk.Places.{way_at};
 ghost use Rattle.template.specs.Walk.Steps.{room, walk_left};
 
+use crate::call_machine::CallMachine;
 use crate::straight::hand::Hand;
 use crate::straight::node::{Reached, descend, end_with, is_leaf, read};
 use crate::view::SeatView;
-use arena::{Head, Kind, Machine, NodeWord, SettledPart, Shape, Side, Slot};
+use arena::{Head, Kind, NodeWord, SettledPart, Shape, Side, Slot};
 use atomic_table::Seat;
 use order::LastTurns;
 use ordered_map::end_slot;
@@ -25,7 +26,7 @@ use template::{Found, Goal, Trail, WalkAt, Way};
 
 /// Ends at the pair at this end of a leaf that begins there, which is in this slot.
 #[inline(always)]
-fn end_at<S: Shape, M: Machine<S>>(
+fn end_at<S: Shape, M: CallMachine<S>>(
     hand: Hand<S>,
     seat: &mut Seat<u8, SeatView>,
     way: Way,
@@ -55,7 +56,7 @@ fn end_at<S: Shape, M: Machine<S>>(
 /// Ends at the pair at this end of a leaf that begins there. The first slot has places apart from
 /// those of the others.
 #[inline(always)]
-fn end_at_side<S: Shape, M: Machine<S>>(
+fn end_at_side<S: Shape, M: CallMachine<S>>(
     hand: Hand<S>,
     seat: &mut Seat<u8, SeatView>,
     way: Way,
@@ -85,7 +86,7 @@ fn end_at_side<S: Shape, M: Machine<S>>(
 /// Ends at a leaf that begins there, of a walk to this end: at the pair there, or at once where it
 /// is above all keys.
 #[inline(always)]
-fn end_last<S: Shape, M: Machine<S>>(
+fn end_last<S: Shape, M: CallMachine<S>>(
     hand: Hand<S>,
     seat: &mut Seat<u8, SeatView>,
     way: Way,
@@ -123,7 +124,7 @@ fn end_last<S: Shape, M: Machine<S>>(
 /// Continues after the head of a node that begins there: on the left of a fork where a walk to this
 /// end goes there, or to the end at a leaf.
 #[inline(always)]
-fn pass_last<S: Shape, M: Machine<S>>(
+fn pass_last<S: Shape, M: CallMachine<S>>(
     hand: Hand<S>,
     seat: &mut Seat<u8, SeatView>,
     way: Way,
@@ -168,7 +169,7 @@ fn goes_right(word: u64) -> bool
 /// Goes right as long as a walk to the last pair does so, in a loop of its own: there the compiler
 /// knows the side, as it does behind the loop. Answers where it is then, and the head there.
 #[inline(always)]
-fn descend_right<S: Shape, M: Machine<S>>(
+fn descend_right<S: Shape, M: CallMachine<S>>(
     hand: Hand<S>,
     seat: &mut Seat<u8, SeatView>,
     way: Way,
@@ -206,7 +207,7 @@ fn descend_right<S: Shape, M: Machine<S>>(
 /// The walk by this way from a place on to the last leaf: forks at which it goes right have a loop
 /// of their own.
 #[inline(always)]
-pub(crate) fn to_last_from<S: Shape, M: Machine<S>>(
+pub(crate) fn to_last_from<S: Shape, M: CallMachine<S>>(
     hand: Hand<S>,
     seat: &mut Seat<u8, SeatView>,
     way: Way,

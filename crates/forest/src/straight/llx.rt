@@ -11,13 +11,14 @@ ghost use Rattle.prims.specs.Llx.Steps.{llx_left};
 ghost use Rattle.prims.specs.Llx.Known.{load};
 ghost use Rattle.prims.specs.declared.llx.LlxRun.{LlxRun};
 
+use crate::call_machine::{CallMachine, CellShape};
 use crate::steps::complete;
 use crate::straight::hand::Hand;
 use crate::straight::step::step;
 use crate::view::SeatView;
 use arena::{
-    ABORTED, Access, COMMITTED, Kind, Machine, NodeNo, NodeWord, ScxNo, ScxWord, Shape, Side, Step,
-    Turn, Word,
+    ABORTED, Access, COMMITTED, Kind, NodeNo, NodeWord, ScxNo, ScxWord, Shape, Side, Step, Turn,
+    Word,
 };
 use atomic_table::Seat;
 use prims::{Llx, LlxAt, LlxRun, Snap};
@@ -46,7 +47,7 @@ pub(crate) fn leaves(state: u64, marked: bool) -> bool
 
 /// Loads a word.
 #[inline(always)]
-fn read<S: Shape, M: Machine<S>, T: Shape>(
+fn read<S: Shape, M: CallMachine<S>, T: Shape>(
     hand: Hand<S>,
     seat: &mut Seat<u8, SeatView>,
     kind: Kind,
@@ -65,7 +66,7 @@ fn read<S: Shape, M: Machine<S>, T: Shape>(
 /// LLX of a node whose mark is asked for: the loads of a snapshot. If something is in the way,
 /// it returns whether the node was marked, and by which SCX-record, whose state is asked for again.
 #[inline(always)]
-pub(crate) fn look<S: Shape, M: Machine<S>, T: Shape>(
+pub(crate) fn look<S: Shape, M: CallMachine<S>, T: Shape>(
     hand: Hand<S>,
     seat: &mut Seat<u8, SeatView>,
     node: NodeNo,
@@ -115,7 +116,7 @@ pub(crate) fn look<S: Shape, M: Machine<S>, T: Shape>(
 /// Continues with the machine, if something is in the way. Inlined, since an answer from a function
 /// out of line would make a call which meets nothing use memory for its answer too.
 #[inline(always)]
-fn hand_over<S: Shape>(
+fn hand_over<S: CellShape>(
     hand: Hand<S>,
     seat: &mut Seat<u8, SeatView>,
     node: NodeNo,
@@ -142,7 +143,7 @@ fn hand_over<S: Shape>(
 
 /// LLX of a node: the loads of a snapshot; if something is in the way, the machine continues.
 #[inline(always)]
-pub(crate) fn call<S: Shape>(hand: Hand<S>, seat: &mut Seat<u8, SeatView>, node: NodeNo) -> Llx
+pub(crate) fn call<S: CellShape>(hand: Hand<S>, seat: &mut Seat<u8, SeatView>, node: NodeNo) -> Llx
     requires table { IsAt hand seat.old }
     requires begins { (c : Call) × IsCallOf hand c
         × SeatLlxBegins S.allows c seat.old.me.0.passes node }

@@ -13,12 +13,11 @@ ghost use Rattle.template.specs.FoundLeaf.{asked_key};
 ghost use Rattle.template.specs.declared.walk.WalkRun.{WalkRun};
 ghost use Rattle.template.specs.Walk.Places.{way_at};
 
+use crate::call_machine::CallMachine;
 use crate::straight::hand::Hand;
 use crate::straight::step::step_from;
 use crate::view::SeatView;
-use arena::{
-    Access, Head, Kind, Machine, NodeNo, NodeWord, SettledPart, Shape, Side, Slot, Step, Word,
-};
+use arena::{Access, Head, Kind, NodeNo, NodeWord, SettledPart, Shape, Side, Slot, Step, Word};
 use atomic_table::Seat;
 use order::LastTurns;
 use ordered_map::wide_value;
@@ -63,7 +62,7 @@ impl Reached {
 
 /// Loads a word of a node that begins there.
 #[inline(always)]
-pub(crate) fn read<S: Shape, M: Machine<S>>(
+pub(crate) fn read<S: Shape, M: CallMachine<S>>(
     hand: Hand<S>,
     seat: &mut Seat<u8, SeatView>,
     kind: Kind,
@@ -115,7 +114,7 @@ pub(crate) fn is_leaf(word: u64) -> bool
 /// Ends at the pair in this slot of a leaf that begins there, which it answers: with the two words
 /// of its value.
 #[inline(always)]
-pub(crate) fn end_with<S: Shape, M: Machine<S>>(
+pub(crate) fn end_with<S: Shape, M: CallMachine<S>>(
     hand: Hand<S>,
     seat: &mut Seat<u8, SeatView>,
     way: Way,
@@ -154,7 +153,7 @@ pub(crate) fn end_with<S: Shape, M: Machine<S>>(
 /// Goes down from a fork with the head in this word to its child on this side. Where the words of
 /// the child begin is computed once, as soon as it is known.
 #[inline(always)]
-pub(crate) fn descend<S: Shape, M: Machine<S>>(
+pub(crate) fn descend<S: Shape, M: CallMachine<S>>(
     hand: Hand<S>,
     seat: &mut Seat<u8, SeatView>,
     way: Way,

@@ -15,6 +15,7 @@ ghost use Rattle.order.specs.declared.read.ReadNext.{ReadNext};
 ghost use Rattle.prims.specs.Llx.Known.{load};
 
 use crate::balance::in_trie;
+use crate::call_machine::CallMachine;
 use crate::steps::complete;
 use crate::straight::hand::Hand;
 use crate::straight::llx::{load, look};
@@ -36,7 +37,7 @@ use template::{FixedBalance, Goal, Tree};
 
 /// Loads a settled word.
 #[inline(always)]
-pub(crate) fn read<S: Shape, M: Machine<S>, T: Shape, N: Machine<T>>(
+pub(crate) fn read<S: Shape, M: CallMachine<S>, T: Shape, N: Machine<T>>(
     hand: Hand<S>,
     seat: &mut Seat<u8, SeatView>,
     word: Word,
@@ -58,7 +59,7 @@ pub(crate) fn read<S: Shape, M: Machine<S>, T: Shape, N: Machine<T>>(
 
 /// Completes a read by its machine, which gets this.
 #[inline(never)]
-pub(crate) fn tell<S: Shape, M: Machine<S>, T: Shape, N: Machine<T>>(
+pub(crate) fn tell<S: Shape, M: CallMachine<S>, T: Shape, N: Machine<T>>(
     hand: Hand<S>,
     seat: &mut Seat<u8, SeatView>,
     run: &mut N,
@@ -93,7 +94,7 @@ pub(crate) enum ReadStop {
 
 /// Looks at a fork, and returns what is done next.
 #[inline(always)]
-fn look_on<S: Shape, M: Machine<S>, R: Read + Drop>(
+fn look_on<S: Shape, M: CallMachine<S>, R: Read + Drop>(
     hand: Hand<S>,
     seat: &mut Seat<u8, SeatView>,
     run: &mut ReadRun<R>,
@@ -123,7 +124,7 @@ fn look_on<S: Shape, M: Machine<S>, R: Read + Drop>(
 }
 
 /// Continues with the machine, if something is in the way of a look.
-fn look_again<S: Shape, M: Machine<S>, R: Read + Drop>(
+fn look_again<S: Shape, M: CallMachine<S>, R: Read + Drop>(
     hand: Hand<S>,
     seat: &mut Seat<u8, SeatView>,
     run: &mut ReadRun<R>,
@@ -157,7 +158,7 @@ fn look_again<S: Shape, M: Machine<S>, R: Read + Drop>(
 /// turn pays for its locals.
 #[cold]
 #[inline(never)]
-fn leave<S: Shape, M: Machine<S>, R: Read + Drop>(
+fn leave<S: Shape, M: CallMachine<S>, R: Read + Drop>(
     hand: Hand<S>,
     seat: &mut Seat<u8, SeatView>,
     run: &mut ReadRun<R>,
@@ -184,7 +185,7 @@ fn leave<S: Shape, M: Machine<S>, R: Read + Drop>(
 /// Validates what it has looked at, and returns what the read has answered. If the last load has
 /// not found what was found before, its machine gets that, and continues to the end.
 #[inline(always)]
-fn validate_on<S: Shape, M: Machine<S>, R: Read + Drop>(
+fn validate_on<S: Shape, M: CallMachine<S>, R: Read + Drop>(
     hand: Hand<S>,
     seat: &mut Seat<u8, SeatView>,
     run: &mut ReadRun<R>,
@@ -206,7 +207,7 @@ fn validate_on<S: Shape, M: Machine<S>, R: Read + Drop>(
 
 /// Loads a word of a node, and returns what is done next.
 #[inline(always)]
-fn load_on<S: Shape, M: Machine<S>, R: Read + Drop, L: KnownLoad<R>>(
+fn load_on<S: Shape, M: CallMachine<S>, R: Read + Drop, L: KnownLoad<R>>(
     hand: Hand<S>,
     seat: &mut Seat<u8, SeatView>,
     run: &mut ReadRun<R>,
@@ -227,7 +228,7 @@ fn load_on<S: Shape, M: Machine<S>, R: Read + Drop, L: KnownLoad<R>>(
 
 /// Loads the two words of a value that is taken.
 #[inline(always)]
-fn read_value<S: Shape, M: Machine<S>, R: Read + Drop>(
+fn read_value<S: Shape, M: CallMachine<S>, R: Read + Drop>(
     hand: Hand<S>,
     seat: &mut Seat<u8, SeatView>,
     run: &mut ReadRun<R>,
@@ -255,7 +256,7 @@ fn read_value<S: Shape, M: Machine<S>, R: Read + Drop>(
 
 /// Loads the key at this place of a leaf, and the value of the pair that is taken.
 #[inline(always)]
-fn read_pair<S: Shape, M: Machine<S>, R: Read + Drop>(
+fn read_pair<S: Shape, M: CallMachine<S>, R: Read + Drop>(
     hand: Hand<S>,
     seat: &mut Seat<u8, SeatView>,
     run: &mut ReadRun<R>,
@@ -282,7 +283,7 @@ fn read_pair<S: Shape, M: Machine<S>, R: Read + Drop>(
 /// Loads the pair in this slot, if it is the one that comes next. Where its caller knows the slot,
 /// so does the compiler.
 #[inline(always)]
-fn read_next_pair<S: Shape, M: Machine<S>, R: Read + Drop>(
+fn read_next_pair<S: Shape, M: CallMachine<S>, R: Read + Drop>(
     hand: Hand<S>,
     seat: &mut Seat<u8, SeatView>,
     run: &mut ReadRun<R>,
@@ -305,7 +306,7 @@ fn read_next_pair<S: Shape, M: Machine<S>, R: Read + Drop>(
 /// Goes through the pairs of a leaf from this place on: slot by slot, so that the compiler knows
 /// where in the leaf each word is.
 #[inline(always)]
-fn read_pairs<S: Shape, M: Machine<S>, R: Read + Drop>(
+fn read_pairs<S: Shape, M: CallMachine<S>, R: Read + Drop>(
     hand: Hand<S>,
     seat: &mut Seat<u8, SeatView>,
     run: &mut ReadRun<R>,
@@ -333,7 +334,7 @@ fn read_pairs<S: Shape, M: Machine<S>, R: Read + Drop>(
 
 /// Loads the head of a node, and the key of a fork or how many pairs a leaf has.
 #[inline(always)]
-fn read_node<S: Shape, M: Machine<S>, R: Read + Drop>(
+fn read_node<S: Shape, M: CallMachine<S>, R: Read + Drop>(
     hand: Hand<S>,
     seat: &mut Seat<u8, SeatView>,
     run: &mut ReadRun<R>,
@@ -363,7 +364,7 @@ fn read_node<S: Shape, M: Machine<S>, R: Read + Drop>(
 
 /// Looks at a fork, if that comes next.
 #[inline(always)]
-fn look_next<S: Shape, M: Machine<S>, R: Read + Drop>(
+fn look_next<S: Shape, M: CallMachine<S>, R: Read + Drop>(
     hand: Hand<S>,
     seat: &mut Seat<u8, SeatView>,
     run: &mut ReadRun<R>,
@@ -387,7 +388,7 @@ fn look_next<S: Shape, M: Machine<S>, R: Read + Drop>(
 /// Makes what is left of a try, which is the VLX once no node is left. Out of line, so that the
 /// turns before it are put together as if there were nothing else.
 #[inline(never)]
-fn rest<S: Shape, M: Machine<S>, R: Read + Drop>(
+fn rest<S: Shape, M: CallMachine<S>, R: Read + Drop>(
     hand: Hand<S>,
     seat: &mut Seat<u8, SeatView>,
     run: &mut ReadRun<R>,
@@ -419,7 +420,7 @@ fn rest<S: Shape, M: Machine<S>, R: Read + Drop>(
 
 /// Makes what is left of a try from this on.
 #[inline(always)]
-fn go_on<S: Shape, M: Machine<S>, R: Read + Drop>(
+fn go_on<S: Shape, M: CallMachine<S>, R: Read + Drop>(
     hand: Hand<S>,
     seat: &mut Seat<u8, SeatView>,
     run: &mut ReadRun<R>,
@@ -460,7 +461,7 @@ fn go_on<S: Shape, M: Machine<S>, R: Read + Drop>(
 
 /// Makes the try that begins with the load of the root's head.
 #[inline(always)]
-fn from_root<S: Shape, M: Machine<S>, R: Read + Drop>(
+fn from_root<S: Shape, M: CallMachine<S>, R: Read + Drop>(
     hand: Hand<S>,
     seat: &mut Seat<u8, SeatView>,
     run: &mut ReadRun<R>,
@@ -483,7 +484,7 @@ fn from_root<S: Shape, M: Machine<S>, R: Read + Drop>(
 
 /// Makes an ordered read: its first try inline. A function of its own, as that of an update.
 #[inline(never)]
-pub(crate) fn call<S: Shape, M: Machine<S>, R: Read + Drop, B: FixedBalance>(
+pub(crate) fn call<S: Shape, M: CallMachine<S>, R: Read + Drop, B: FixedBalance>(
     hand: Hand<S>,
     seat: &mut Seat<u8, SeatView>,
     run: &mut ReadRun<R>,

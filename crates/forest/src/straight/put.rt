@@ -9,12 +9,13 @@ ghost use Rattle.forest.specs.Seats.{StaysAtTable};
 ghost use Rattle.forest.specs.StraightScx.{scx_fill, all_frozen_load};
 ghost use Rattle.forest.specs.StraightPut.{SeatPutBegins, SeatPutWaits, SeatPutEnds, fresh_put, scx_at, standing_put};
 
+use crate::call_machine::CellShape;
 use crate::steps::complete;
 use crate::straight::hand::Hand;
 use crate::straight::scx::{self, ScxTask};
 use crate::straight::step::step;
 use crate::view::SeatView;
-use arena::{Access, Kind, NodeWord, ScxWord, SettledPart, Shape, Slot, Step, Turn, Word};
+use arena::{Access, Kind, NodeWord, ScxWord, SettledPart, Slot, Step, Turn, Word};
 use atomic_table::Seat;
 use help::HelpRun;
 use prims::{PutAt, PutRun, Scx, ScxAt, ScxRun, Snap, Snaps, Update};
@@ -54,7 +55,12 @@ fn machine(snaps: &[Snap], put: PutTask, scx: ScxAt, at: PutAt) -> PutRun
 
 /// Fills the value of the fresh cell.
 #[inline(always)]
-fn fill_value<S: Shape>(hand: Hand<S>, seat: &mut Seat<u8, SeatView>, snaps: &[Snap], put: PutTask)
+fn fill_value<S: CellShape>(
+    hand: Hand<S>,
+    seat: &mut Seat<u8, SeatView>,
+    snaps: &[Snap],
+    put: PutTask,
+)
     requires table { IsAt hand seat.old }
     requires fits { length snaps.now ≤ 4 }
     requires begins { (c : Call) × IsCallOf hand c
@@ -82,7 +88,7 @@ fn fill_value<S: Shape>(hand: Hand<S>, seat: &mut Seat<u8, SeatView>, snaps: &[S
 /// The layout and the run of HELP are copies, so that the caller's, which are not handed out of
 /// line, stay in registers.
 #[inline(always)]
-fn complete_blocked<S: Shape>(
+fn complete_blocked<S: CellShape>(
     hand: Hand<S>,
     seat: &mut Seat<u8, SeatView>,
     snaps: &[Snap],
@@ -117,7 +123,7 @@ fn complete_blocked<S: Shape>(
 
 /// SCX of an update by this SCX-record, whose fresh cell gets the value.
 #[inline(always)]
-pub(crate) fn call<S: Shape>(
+pub(crate) fn call<S: CellShape>(
     hand: Hand<S>,
     seat: &mut Seat<u8, SeatView>,
     snaps: &[Snap],

@@ -8,17 +8,18 @@ ghost use Rattle.forest.specs.StraightUpdate.{StandsToTry, TryGoesOn};
 ghost use Rattle.edits.specs.Readings.{is_at_pair};
 ghost use Rattle.edits.specs.declared.update.Next.{Next};
 
+use crate::call_machine::CallMachine;
 use crate::straight::hand::Hand;
 use crate::straight::step::step;
 use crate::view::SeatView;
-use arena::{Access, Kind, Machine, NodeNo, NodeWord, SettledPart, Shape, Slot, Step, Word};
+use arena::{Access, Kind, NodeNo, NodeWord, SettledPart, Shape, Slot, Step, Word};
 use atomic_table::Seat;
 use edits::{Edit, Next, UpdateRun};
 use template::Found;
 
 /// Loads a settled word of the node that is read.
 #[inline(always)]
-fn read_word<S: Shape, M: Machine<S>, E: Edit + Copy>(
+fn read_word<S: Shape, M: CallMachine<S>, E: Edit + Copy>(
     hand: Hand<S>,
     seat: &mut Seat<u8, SeatView>,
     run: &mut UpdateRun<E, ()>,
@@ -42,7 +43,7 @@ fn read_word<S: Shape, M: Machine<S>, E: Edit + Copy>(
 /// Loads key, value and high half of the pair in this slot of a leaf. Where its caller knows the
 /// slot, so does the compiler.
 #[inline(always)]
-fn read_pair<S: Shape, M: Machine<S>, E: Edit + Copy>(
+fn read_pair<S: Shape, M: CallMachine<S>, E: Edit + Copy>(
     hand: Hand<S>,
     seat: &mut Seat<u8, SeatView>,
     run: &mut UpdateRun<E, ()>,
@@ -71,7 +72,7 @@ fn read_pair<S: Shape, M: Machine<S>, E: Edit + Copy>(
 
 /// Loads the pair in this slot, where it is the one that is read next.
 #[inline(always)]
-fn read_next_pair<S: Shape, M: Machine<S>, E: Edit + Copy>(
+fn read_next_pair<S: Shape, M: CallMachine<S>, E: Edit + Copy>(
     hand: Hand<S>,
     seat: &mut Seat<u8, SeatView>,
     run: &mut UpdateRun<E, ()>,
@@ -97,7 +98,7 @@ fn read_next_pair<S: Shape, M: Machine<S>, E: Edit + Copy>(
 
 /// Loads all pairs of a leaf, whose first key is read next.
 #[inline(always)]
-fn read_pairs<S: Shape, M: Machine<S>, E: Edit + Copy>(
+fn read_pairs<S: Shape, M: CallMachine<S>, E: Edit + Copy>(
     hand: Hand<S>,
     seat: &mut Seat<u8, SeatView>,
     run: &mut UpdateRun<E, ()>,
@@ -121,7 +122,7 @@ fn read_pairs<S: Shape, M: Machine<S>, E: Edit + Copy>(
 
 /// Loads a settled word of the node that is read, and with the first key of a leaf all its pairs.
 #[inline(always)]
-pub(crate) fn read<S: Shape, M: Machine<S>, E: Edit + Copy>(
+pub(crate) fn read<S: Shape, M: CallMachine<S>, E: Edit + Copy>(
     hand: Hand<S>,
     seat: &mut Seat<u8, SeatView>,
     run: &mut UpdateRun<E, ()>,

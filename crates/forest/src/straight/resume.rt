@@ -9,10 +9,11 @@ ghost use Rattle.edits.specs.Next.{standing};
 ghost use Rattle.edits.specs.Steps.{update_left};
 ghost use Rattle.edits.specs.declared.update.UpdateAt.{UpdateAt as Places};
 
+use crate::call_machine::CallMachine;
 use crate::straight::hand::Hand;
 use crate::straight::step::step;
 use crate::view::SeatView;
-use arena::{Layout, Machine, PassNo, ScxNo, Shape, Share, Step, Turn};
+use arena::{Layout, PassNo, ScxNo, Shape, Share, Step, Turn};
 use atomic_table::Seat;
 use edits::{Edit, Next, Stop, UpdateAt, UpdateRun, Updated, copied};
 use help::HelpRun;
@@ -32,7 +33,7 @@ fn take_run<E: Edit + Copy>(run: &mut UpdateRun<E, ()>, layout: &Layout) -> Upda
 }
 
 /// Makes the rest of an update from this turn of its machine on, and gives it back without a place.
-fn finish<S: Shape, M: Machine<S>, E: Edit + Copy>(
+fn finish<S: Shape, M: CallMachine<S>, E: Edit + Copy>(
     hand: Hand<S>,
     seat: &mut Seat<u8, SeatView>,
     mut machine: UpdateRun<E, UpdateAt>,
@@ -63,7 +64,7 @@ fn finish<S: Shape, M: Machine<S>, E: Edit + Copy>(
 /// Makes the rest of an update from this place on, where it waits for this step.
 #[cold]
 #[inline(never)]
-fn rest_from<S: Shape, M: Machine<S>, E: Edit + Copy>(
+fn rest_from<S: Shape, M: CallMachine<S>, E: Edit + Copy>(
     hand: Hand<S>,
     seat: &mut Seat<u8, SeatView>,
     machine: UpdateRun<E, UpdateAt>,
@@ -84,7 +85,7 @@ fn rest_from<S: Shape, M: Machine<S>, E: Edit + Copy>(
 
 /// Puts an update at this place, where it waits for this step, and makes the rest of it from there.
 #[inline(always)]
-pub(crate) fn from_place<S: Shape, M: Machine<S>, E: Edit + Copy>(
+pub(crate) fn from_place<S: Shape, M: CallMachine<S>, E: Edit + Copy>(
     hand: Hand<S>,
     seat: &mut Seat<u8, SeatView>,
     run: &mut UpdateRun<E, ()>,
@@ -109,7 +110,7 @@ pub(crate) fn from_place<S: Shape, M: Machine<S>, E: Edit + Copy>(
 /// Makes the rest of an update from what its try does next on.
 #[cold]
 #[inline(never)]
-fn rest_from_next<S: Shape, M: Machine<S>, E: Edit + Copy>(
+fn rest_from_next<S: Shape, M: CallMachine<S>, E: Edit + Copy>(
     hand: Hand<S>,
     seat: &mut Seat<u8, SeatView>,
     mut machine: UpdateRun<E, UpdateAt>,
@@ -136,7 +137,7 @@ fn rest_from_next<S: Shape, M: Machine<S>, E: Edit + Copy>(
 /// Makes the rest of an update from what its try does next on. Inlined, it copies the leaf,
 /// since the compiler keeps in registers only what is handed to no function out of line.
 #[inline(always)]
-pub(crate) fn from_next<S: Shape, M: Machine<S>, E: Edit + Copy>(
+pub(crate) fn from_next<S: Shape, M: CallMachine<S>, E: Edit + Copy>(
     hand: Hand<S>,
     seat: &mut Seat<u8, SeatView>,
     run: &mut UpdateRun<E, ()>,
@@ -157,7 +158,7 @@ pub(crate) fn from_next<S: Shape, M: Machine<S>, E: Edit + Copy>(
 /// Makes the rest of an update whose SCX could not freeze a node.
 #[cold]
 #[inline(never)]
-fn rest_from_block<S: Shape, M: Machine<S>, E: Edit + Copy>(
+fn rest_from_block<S: Shape, M: CallMachine<S>, E: Edit + Copy>(
     hand: Hand<S>,
     seat: &mut Seat<u8, SeatView>,
     mut machine: UpdateRun<E, UpdateAt>,
@@ -180,7 +181,7 @@ fn rest_from_block<S: Shape, M: Machine<S>, E: Edit + Copy>(
 
 /// Makes the rest of an update whose SCX could not freeze a node, with copies as above.
 #[inline(always)]
-pub(crate) fn from_block<S: Shape, M: Machine<S>, E: Edit + Copy>(
+pub(crate) fn from_block<S: Shape, M: CallMachine<S>, E: Edit + Copy>(
     hand: Hand<S>,
     seat: &mut Seat<u8, SeatView>,
     run: &mut UpdateRun<E, ()>,

@@ -14,11 +14,12 @@ ghost use Rattle.prims.specs.declared.scx.ScxRun.{ScxRun};
 ghost use Rattle.prims.specs.declared.scx.ScxAt.{ScxAt};
 ghost use Rattle.help.specs.declared.state.HelpAt.{HelpAt};
 
+use crate::call_machine::CallMachine;
 use crate::straight::hand::Hand;
 use crate::straight::helps;
 use crate::straight::step::step_from;
 use crate::view::SeatView;
-use arena::{Access, Kind, Machine, MemberIndex, NodeNo, Plan, ScxNo, ScxWord, Shape, Step, Word};
+use arena::{Access, Kind, MemberIndex, NodeNo, Plan, ScxNo, ScxWord, Shape, Step, Word};
 use atomic_table::Seat;
 use help::HelpRun;
 use prims::SnapList;
@@ -35,7 +36,7 @@ pub(crate) struct ScxTask {
 
 /// Fills a word of the SCX-record, which begins there.
 #[inline(always)]
-fn fill<S: Shape, M: Machine<S>, T: Shape>(
+fn fill<S: Shape, M: CallMachine<S>, T: Shape>(
     hand: Hand<S>,
     seat: &mut Seat<u8, SeatView>,
     scx: ScxNo,
@@ -57,7 +58,7 @@ fn fill<S: Shape, M: Machine<S>, T: Shape>(
 
 /// Fills the node of this place, and returns the next place.
 #[inline(always)]
-fn fill_member<S: Shape, M: Machine<S>, T: Shape, L: SnapList>(
+fn fill_member<S: Shape, M: CallMachine<S>, T: Shape, L: SnapList>(
     hand: Hand<S>,
     seat: &mut Seat<u8, SeatView>,
     snaps: &L,
@@ -89,7 +90,7 @@ fn fill_member<S: Shape, M: Machine<S>, T: Shape, L: SnapList>(
 
 /// Fills the nodes that the SCX-record covers.
 #[inline(always)]
-fn fill_members<S: Shape, M: Machine<S>, T: Shape, L: SnapList>(
+fn fill_members<S: Shape, M: CallMachine<S>, T: Shape, L: SnapList>(
     hand: Hand<S>,
     seat: &mut Seat<u8, SeatView>,
     snaps: &L,
@@ -120,7 +121,7 @@ fn fill_members<S: Shape, M: Machine<S>, T: Shape, L: SnapList>(
 
 /// Fills what the info of the node of this place was, and returns the next place.
 #[inline(always)]
-fn fill_seen<S: Shape, M: Machine<S>, T: Shape, L: SnapList>(
+fn fill_seen<S: Shape, M: CallMachine<S>, T: Shape, L: SnapList>(
     hand: Hand<S>,
     seat: &mut Seat<u8, SeatView>,
     snaps: &L,
@@ -152,7 +153,7 @@ fn fill_seen<S: Shape, M: Machine<S>, T: Shape, L: SnapList>(
 
 /// Fills what the infos of these nodes were.
 #[inline(always)]
-fn fill_infos<S: Shape, M: Machine<S>, T: Shape, L: SnapList>(
+fn fill_infos<S: Shape, M: CallMachine<S>, T: Shape, L: SnapList>(
     hand: Hand<S>,
     seat: &mut Seat<u8, SeatView>,
     snaps: &L,
@@ -183,7 +184,7 @@ fn fill_infos<S: Shape, M: Machine<S>, T: Shape, L: SnapList>(
 
 /// Fills the words of the SCX-record, from its plan on.
 #[inline(always)]
-pub(crate) fn fill_all<S: Shape, M: Machine<S>, T: Shape, L: SnapList>(
+pub(crate) fn fill_all<S: Shape, M: CallMachine<S>, T: Shape, L: SnapList>(
     hand: Hand<S>,
     seat: &mut Seat<u8, SeatView>,
     snaps: &L,
@@ -212,7 +213,7 @@ pub(crate) fn fill_all<S: Shape, M: Machine<S>, T: Shape, L: SnapList>(
 /// returns whether it is done. If a node could not be frozen the run waits to look whether all
 /// were.
 #[inline(always)]
-pub(crate) fn call<S: Shape, M: Machine<S>, T: Shape, L: SnapList>(
+pub(crate) fn call<S: Shape, M: CallMachine<S>, T: Shape, L: SnapList>(
     hand: Hand<S>,
     seat: &mut Seat<u8, SeatView>,
     snaps: &L,

@@ -9,17 +9,18 @@ ghost use Rattle.forest.specs.Hands.{IsAt, IsCallOf};
 ghost use Rattle.forest.specs.Seats.{StaysAtTable};
 ghost use Rattle.forest.specs.Traces.{Waits, Told, known_of};
 
+use crate::call_machine::CallMachine;
 use crate::rule::CallStep;
 use crate::straight::hand::Hand;
 use crate::view::SeatView;
-use arena::{Machine, Shape, Step};
+use arena::{Shape, Step};
 use atomic_table::Seat;
 use std::marker::Brand;
 
 /// Makes the step for which a machine of this type waits, on a word whose node or SCX-record begins
 /// there, and answers what the machine may get.
 #[inline(always)]
-pub(crate) fn step_from<S: Shape, M: Machine<S>>(
+pub(crate) fn step_from<S: Shape, M: CallMachine<S>>(
     hand: Hand<S>,
     seat: &mut Seat<u8, SeatView>,
     step: Step,
@@ -48,7 +49,7 @@ pub(crate) fn step_from<S: Shape, M: Machine<S>>(
 
 /// Makes the step for which a machine of this type waits, and answers what the machine may get.
 #[inline(always)]
-pub(crate) fn step<S: Shape, M: Machine<S>>(
+pub(crate) fn step<S: Shape, M: CallMachine<S>>(
     hand: Hand<S>,
     seat: &mut Seat<u8, SeatView>,
     step: Step,

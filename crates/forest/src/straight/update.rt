@@ -9,6 +9,7 @@ ghost use Rattle.edits.specs.Steps.{update_left};
 ghost use Rattle.edits.specs.declared.update.Next.{Next};
 ghost use Rattle.edits.specs.declared.update.UpdateAt.{UpdateAt};
 
+use crate::call_machine::CallMachine;
 use crate::straight::fresh_nodes::fill_node;
 use crate::straight::hand::Hand;
 use crate::straight::llx::look;
@@ -16,7 +17,7 @@ use crate::straight::reads::read;
 use crate::straight::scx::{self, ScxTask};
 use crate::straight::{guard, helps, resume, walk};
 use crate::view::SeatView;
-use arena::{Machine, NodeNo, ScxNo, Shape, Share};
+use arena::{NodeNo, ScxNo, Shape, Share};
 use arrayvec::ArrayVec;
 use atomic_table::Seat;
 use edits::{Edit, Next, Nodes, Reading, Stop, UpdateRun, Updated, Work, copied};
@@ -29,7 +30,7 @@ use template::{Found, Tree};
 /// as one with two edits would. It keeps the update's run to itself, so that the compiler knows
 /// what the run holds after each step. The size of a node is a constant again.
 #[inline(never)]
-pub(crate) fn make<S: Shape, M: Machine<S>, E: Edit + Copy>(
+pub(crate) fn make<S: Shape, M: CallMachine<S>, E: Edit + Copy>(
     hand: Hand<S>,
     seat: &mut Seat<u8, SeatView>,
     edit: E,
@@ -72,7 +73,7 @@ pub(crate) fn make<S: Shape, M: Machine<S>, E: Edit + Copy>(
 /// Makes an update: its first try inline, as long as nothing is in its way. If something is,
 /// its machine continues from there; until then the update has no place.
 #[inline(always)]
-fn call<S: Shape, M: Machine<S>, E: Edit + Copy>(
+fn call<S: Shape, M: CallMachine<S>, E: Edit + Copy>(
     hand: Hand<S>,
     seat: &mut Seat<u8, SeatView>,
     run: &mut UpdateRun<E, ()>,
@@ -99,7 +100,7 @@ fn call<S: Shape, M: Machine<S>, E: Edit + Copy>(
 
 /// Makes what a try does next and all after it.
 #[inline(always)]
-fn try_on<S: Shape, M: Machine<S>, E: Edit + Copy>(
+fn try_on<S: Shape, M: CallMachine<S>, E: Edit + Copy>(
     hand: Hand<S>,
     seat: &mut Seat<u8, SeatView>,
     run: &mut UpdateRun<E, ()>,
@@ -129,7 +130,7 @@ fn try_on<S: Shape, M: Machine<S>, E: Edit + Copy>(
 
 /// Makes the looks that come next.
 #[inline(always)]
-fn look_on<S: Shape, M: Machine<S>, E: Edit + Copy>(
+fn look_on<S: Shape, M: CallMachine<S>, E: Edit + Copy>(
     hand: Hand<S>,
     seat: &mut Seat<u8, SeatView>,
     run: &mut UpdateRun<E, ()>,
@@ -150,7 +151,7 @@ fn look_on<S: Shape, M: Machine<S>, E: Edit + Copy>(
 
 /// Makes the loads that come next.
 #[inline(always)]
-fn read_on<S: Shape, M: Machine<S>, E: Edit + Copy>(
+fn read_on<S: Shape, M: CallMachine<S>, E: Edit + Copy>(
     hand: Hand<S>,
     seat: &mut Seat<u8, SeatView>,
     run: &mut UpdateRun<E, ()>,
@@ -171,7 +172,7 @@ fn read_on<S: Shape, M: Machine<S>, E: Edit + Copy>(
 
 /// Makes the fills that come next.
 #[inline(always)]
-fn fill_on<S: Shape, M: Machine<S>, E: Edit + Copy>(
+fn fill_on<S: Shape, M: CallMachine<S>, E: Edit + Copy>(
     hand: Hand<S>,
     seat: &mut Seat<u8, SeatView>,
     run: &mut UpdateRun<E, ()>,
@@ -192,7 +193,7 @@ fn fill_on<S: Shape, M: Machine<S>, E: Edit + Copy>(
 
 /// Looks at a node.
 #[inline(always)]
-fn look_at<S: Shape, M: Machine<S>, E: Edit + Copy>(
+fn look_at<S: Shape, M: CallMachine<S>, E: Edit + Copy>(
     hand: Hand<S>,
     seat: &mut Seat<u8, SeatView>,
     run: &mut UpdateRun<E, ()>,
@@ -215,7 +216,7 @@ fn look_at<S: Shape, M: Machine<S>, E: Edit + Copy>(
 /// Makes the SCX, part by part: the compiler inlines no function that would grow very large, as
 /// one with all of these parts would.
 #[inline(always)]
-fn change<S: Shape, M: Machine<S>, E: Edit + Copy>(
+fn change<S: Shape, M: CallMachine<S>, E: Edit + Copy>(
     hand: Hand<S>,
     seat: &mut Seat<u8, SeatView>,
     run: &mut UpdateRun<E, ()>,

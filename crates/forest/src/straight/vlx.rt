@@ -8,10 +8,11 @@ ghost use Rattle.forest.specs.Seats.{StaysAtTable};
 ghost use Rattle.prims.specs.Snap.{snap_at};
 ghost use Rattle.forest.specs.StraightVlx.{LoadsFirstInfo, Validator, SeatVlxBegins, SeatVlxEnds};
 
+use crate::call_machine::{CallMachine, CellShape};
 use crate::straight::hand::Hand;
 use crate::straight::step::step;
 use crate::view::SeatView;
-use arena::{Access, Kind, Machine, NodeWord, ScxNo, Shape, Step, Word};
+use arena::{Access, Kind, NodeWord, ScxNo, Shape, Step, Word};
 use atomic_table::Seat;
 use prims::{SnapList, Vlx, VlxRun};
 
@@ -19,7 +20,7 @@ use prims::{SnapList, Vlx, VlxRun};
 /// first that is not what its snapshot found, or else the last. It returns how many it has loaded,
 /// and what the last of these is.
 #[inline(always)]
-pub(crate) fn validate<S: Shape, M: Machine<S>, L: SnapList + Copy>(
+pub(crate) fn validate<S: Shape, M: CallMachine<S>, L: SnapList + Copy>(
     hand: Hand<S>,
     seat: &mut Seat<u8, SeatView>,
     snaps: L,
@@ -64,7 +65,7 @@ pub(crate) fn validate<S: Shape, M: Machine<S>, L: SnapList + Copy>(
 /// VLX: loads the infos of the snapshots' nodes, up to the first that is not what its snapshot
 /// found.
 #[inline(always)]
-pub(crate) fn call<S: Shape, L: SnapList + Copy>(
+pub(crate) fn call<S: CellShape, L: SnapList + Copy>(
     hand: Hand<S>,
     seat: &mut Seat<u8, SeatView>,
     snaps: L,

@@ -15,11 +15,12 @@ ghost use Rattle.template.specs.Walk.Known.{EndsAt, asks_key, goal_slot, open_si
 ghost use Rattle.template.specs.Walk.Places.{way_at, way_from};
 ghost use Rattle.template.specs.Walk.Steps.{room, walk_left};
 
+use crate::call_machine::CallMachine;
 use crate::straight::hand::Hand;
 use crate::straight::last_walk;
 use crate::straight::node::{Reached, end_with, is_leaf, read, start_for};
 use crate::view::SeatView;
-use arena::{Head, Kind, Machine, NodeNo, NodeWord, SettledPart, Shape, Side, Slot};
+use arena::{Head, Kind, NodeNo, NodeWord, SettledPart, Shape, Side, Slot};
 use atomic_table::Seat;
 use edits::Edit;
 use order::LastTurns;
@@ -82,7 +83,7 @@ fn asked_key(goal: Goal, key: u64) -> u64
 /// first: it loads the keys in order from this slot on, up to the first that is not below the
 /// walk's, or the last.
 #[inline(always)]
-fn end_from<S: Shape, M: Machine<S>>(
+fn end_from<S: Shape, M: CallMachine<S>>(
     hand: Hand<S>,
     seat: &mut Seat<u8, SeatView>,
     way: Way,
@@ -128,7 +129,7 @@ fn end_from<S: Shape, M: Machine<S>>(
 
 /// Ends at a leaf that begins there: among its pairs, or at once where it is above all keys.
 #[inline(always)]
-fn end<S: Shape, M: Machine<S>>(
+fn end<S: Shape, M: CallMachine<S>>(
     hand: Hand<S>,
     seat: &mut Seat<u8, SeatView>,
     way: Way,
@@ -246,7 +247,7 @@ fn with_turn(turns: LastTurns, counts: bool, side: Side, node: NodeNo) -> LastTu
 /// Continues after the head of a fork that begins there by its key: on a side, or to the end, where
 /// the walk goes no further.
 #[inline(always)]
-fn pass_by_key<S: Shape, M: Machine<S>>(
+fn pass_by_key<S: Shape, M: CallMachine<S>>(
     hand: Hand<S>,
     seat: &mut Seat<u8, SeatView>,
     way: Way,
@@ -288,7 +289,7 @@ fn pass_by_key<S: Shape, M: Machine<S>>(
 /// Continues after the head of a node that begins there: on a side of a fork, or to the end at a
 /// leaf.
 #[inline(always)]
-fn pass<S: Shape, M: Machine<S>>(
+fn pass<S: Shape, M: CallMachine<S>>(
     hand: Hand<S>,
     seat: &mut Seat<u8, SeatView>,
     way: Way,
@@ -322,7 +323,7 @@ fn pass<S: Shape, M: Machine<S>>(
 /// The walk by this way from a place on to the leaf where a key is, or would be, or to the first
 /// leaf, and the last forks where it turned.
 #[inline(always)]
-fn to_goal_from<S: Shape, M: Machine<S>>(
+fn to_goal_from<S: Shape, M: CallMachine<S>>(
     hand: Hand<S>,
     seat: &mut Seat<u8, SeatView>,
     way: Way,
@@ -375,7 +376,7 @@ fn to_goal_from<S: Shape, M: Machine<S>>(
 /// The walk by this way from the root to the leaf where a key is, or would be, or to the first
 /// leaf, and the last forks where it turned.
 #[inline(always)]
-pub(crate) fn to_goal<S: Shape, M: Machine<S>>(
+pub(crate) fn to_goal<S: Shape, M: CallMachine<S>>(
     hand: Hand<S>,
     seat: &mut Seat<u8, SeatView>,
     way: Way,
@@ -397,7 +398,7 @@ pub(crate) fn to_goal<S: Shape, M: Machine<S>>(
 /// function for each type of edit, so that the compiler has it once, and puts it in its place: what
 /// is called from several places it would not, as both walks are too much for `inline(always)`.
 #[inline(always)]
-pub(crate) fn call_from<S: Shape, M: Machine<S>, E: Edit>(
+pub(crate) fn call_from<S: Shape, M: CallMachine<S>, E: Edit>(
     hand: Hand<S>,
     seat: &mut Seat<u8, SeatView>,
     way: Way,

@@ -2,7 +2,7 @@ use Rattle.std.proofs.Common.{Some, refl, sym, ap, subst}
 use Rattle.histories.specs.Common.{Layout, IsWord, History}
 use Rattle.forest.specs.TableRule.{IsPlaceOf, past_of, row}
 use Rattle.forest.specs.Traces.{Trace, known_of, others, makes}
-use Rattle.forest.proofs.Advances.{called_so, may, word_of, told, one_step}
+use Rattle.forest.proofs.Advances.{called_so, may, of_map_call, word_of, told, one_step}
 use Rattle.forest.proofs.straight.step.step_from.Goals as goal
 
 pub place_from-at-requires-clause-word : goal.place_from-at-requires-clause-word
@@ -21,6 +21,10 @@ make-requires-clause-place g c = let w = c.requires.waits in let law = g.met.M.M
 pub make-requires-clause-may : goal.make-requires-clause-may
 make-requires-clause-may g c = let w = c.requires.waits in let law = g.met.M.Machine in
     may g.S.Shape.allows w.0 record { call = c.args.hand.number; step = c.args.step } w.3.1 _ _ (λ h r. law.keeps w.2 w.0 h c.args.step r) (λ h. law.lawful w.2 w.0 h c.args.step) (called_so w.4)
+
+pub make-requires-clause-of_call : goal.make-requires-clause-of_call
+make-requires-clause-of_call g c = λ map. let w = c.requires.waits in let law = g.met.M.Machine in
+    of_map_call g.S.Shape.allows w.0 record { call = c.args.hand.number; step = c.args.step } w.3.1 _ _ (λ h r. law.keeps w.2 w.0 h c.args.step r) (λ h waits. g.met.M.CallMachine.of_call w.2 w.0 h c.args.step map waits) (called_so w.4)
 
 pub returns-clause-told : goal.returns-clause-told
 returns-clause-told g c = λ k first m fits x. let law = g.met.M.Machine in let step = c.args.step in let found = c.make.result in
