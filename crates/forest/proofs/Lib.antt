@@ -44,3 +44,14 @@ mod StraightGet
 mod StraightCalls
 mod Begun
 mod InWords
+mod LastingKept
+mod LastingSeats
+mod LastingMoves
+mod LastingRests
+mod LastingGhosts
+mod LastingLooks
+mod LastingNotes
+mod LastingSlots
+mod LastingNames
+mod LastingTakes
+mod LastingOpens

@@ -31,3 +31,4 @@ pub mod StepKinds
 pub mod Opened
 pub mod OpenInvariant
 pub mod Beginnings
+pub mod LastingRule

@@ -1,0 +1,108 @@
+-- Moves that no word shows: a load, by which a pass comes to know the run, and remembers more.
+use Rattle.std.proofs.Common.{◌≡◌, ◌≢◌, ◌<◌, ◌⊎◌, ℕ, Bool, false, List, [], ◌∷◌, slice_index, slice_set, inl, inr, refl, sym, ◌∙◌, ap, subst}
+use mathlib.Core.Option.{some}
+use lib.ListN.{get_elem?}
+use Rattle.atomic_table.specs.Table.{State}
+use Rattle.histories.specs.Common.{Layout, Row, History, Extends, IsRun}
+use Rattle.arena.proofs.Lemmas.{ends_self}
+use Rattle.planting.specs.Plantings.{PlantingView}
+use Rattle.resting.specs.Rests.{HaveMovedOn, HaveRestedAt}
+use Rattle.slots.specs.Counts.{CountsRests}
+use Rattle.slots.specs.Held.{Held}
+use Rattle.slots.specs.Lasting.{Lasting}
+use Rattle.slots.specs.Window.{IsWindow}
+use Rattle.slots.proofs.Lemmas.{seen_moves}
+use Rattle.forest.specs.Passes.{Each}
+use Rattle.forest.specs.TableRule.{Owns, history_of, seated_pass}
+use Rattle.forest.specs.LastingRule.{AreHeldOrGone, IsIn, Present, RememberWell, RemembersNames, RemembersWell, TableLasts, plot_in, present}
+use Rattle.forest.specs.declared.lasting_view.LastingView.{LastingView}
+use Rattle.forest.specs.declared.lasting_view.Memory.{Memory}
+use Rattle.forest.specs.declared.view.SeatedPass.{SeatedPass}
+use Rattle.forest.proofs.LastingKept.{Later, Spares, StaysUnborn, remember_kept, remembers_kept, spared, views_kept}
+use Rattle.forest.proofs.LastingSeats.{apart, now, own, set_self, well}
+
+-- what is so of each, is so of one of them
+pub in_each : {A : Type 0} (P : A → Type 0) (x : A) (xs : List A) → IsIn x xs → Each P xs → P x
+in_each P x [] i y = absurd i
+in_each P x (z ∷ zs) (inl e) y = subst P (sym e) y.0
+in_each P x (z ∷ zs) (inr i) y = in_each P x zs i y.1
+
+-- the table with other moments of rests, and other slots, may be there later
+pub later_moments : (t : Lasting) (a : Present) (next : ℕ → History) (held : Held) → HaveMovedOn t.lay a.run a.last next → IsWindow t a.words a.run next held → Later t a (present a.words a.run next held a.tally)
+later_moments t a next held moved w = record { run = w.run; within = ends_self a.run; moved = moved; seen = λ p m n i y. seen_moves a.run a.last a.tally p m n y t next i moved }
+
+-- they stay
+pub moments_stay : (t : Lasting) (h : History) (last : ℕ → History) → HaveRestedAt t.lay h last → HaveMovedOn t.lay h last last
+moments_stay t h last rested = record { rested = rested; within = λ o i. (rested o i).within; later = λ o i. ends_self (last o) }
+
+module _ (allows : Layout → History → ℕ → Type 0) (t : Lasting) (planting : PlantingView) (stays : StaysUnborn t.lay) (s : State ℕ LastingView) (kept : TableLasts allows t planting s) (id : ℕ) (v : LastingView) (fits : get_elem? s.views id ≡ some v) (p : SeatedPass) (m : Memory) (one : v.passes ≡ p ∷ []) (recalled : v.memories ≡ m ∷ []) (at : ℕ) where
+  abbrev before : Present
+  before = now allows t planting s kept id v fits p m one recalled
+
+  -- what the table is after a load there, and what the pass remembers then
+  abbrev pub seen_by : List Row → Memory → State ℕ LastingView
+  seen_by rows after = record { words = slice_set s.words at (slice_index s.words at); homes = s.homes; views = slice_set s.views id record { passes = seated_pass p.number.0 p.layout p.planting rows ∷ []; memories = after ∷ [] } }
+
+  module _ (words : List ℕ) (rows : List Row) (next : ℕ → History) (held : Held) (after : Memory)
+      (sound : IsRun allows t.lay (history_of planting rows))
+      (window : IsWindow t words (history_of planting rows) next held)
+      (counts : CountsRests t words (history_of planting rows) kept.tally)
+      (later : Later t before (present words (history_of planting rows) next held kept.tally))
+      (rests : (q : ℕ) → q ≢ p.number.0 → kept.tally.away q ≡ false → next q ≡ kept.last q)
+      (gone : AreHeldOrGone t (present words (history_of planting rows) next held kept.tally))
+      (mine : RemembersWell t planting (present words (history_of planting rows) next held kept.tally) p.number.0 after)
+      (spares : (q : ℕ) → q ≢ p.number.0 → Spares t planting before (present words (history_of planting rows) next held kept.tally) later stays q)
+      (grows : (j : ℕ) → j ≢ id → (ps : List SeatedPass) → Owns (plot_in t planting) kept.rows kept.owner j ps → Owns (plot_in t planting) rows kept.owner j ps) where
+    abbrev there : Present
+    there = present words (history_of planting rows) next held kept.tally
+
+    abbrev w : LastingView
+    w = record { passes = seated_pass p.number.0 p.layout p.planting rows ∷ []; memories = after ∷ [] }
+
+    owned : Owns (plot_in t planting) kept.rows kept.owner id (p ∷ [])
+    owned = own allows t planting s kept id v fits p m one recalled
+
+    others : (q : ℕ) (n : Memory) → q ≢ p.number.0 → RemembersWell t planting before q n → RemembersWell t planting there q n
+    others q n d y = remembers_kept t planting before there later stays q n (spares q d) refl refl (rests q d) y
+
+    -- the pass knows the run by then, and remembers so much
+    pub goes_on : TableLasts allows t planting record { words = words; homes = s.homes; views = slice_set s.views id w }
+    goes_on = record {
+      rows = rows;
+      last = next;
+      held = held;
+      tally = kept.tally;
+      sound = sound;
+      window = window;
+      counts = counts;
+      gone = gone;
+      owner = kept.owner;
+      passes = views_kept (λ j u. Owns (plot_in t planting) kept.rows kept.owner j u.passes) (λ j u. Owns (plot_in t planting) rows kept.owner j u.passes) s.views id w
+          (owned.0, owned.1, ([], refl, tt), tt, tt) (λ j u other fit y. grows j other u.passes y) kept.passes;
+      memories = views_kept (λ j u. RememberWell t planting before u.passes u.memories) (λ j u. RememberWell t planting there u.passes u.memories) s.views id w
+          (mine, tt)
+          (λ j u other fit y. remember_kept t planting before there (λ q. q ≢ p.number.0) others kept.rows kept.owner j (λ q is. apart allows t planting s kept id v fits p m one recalled j q other is) u.passes u.memories (kept.passes j u fit) y)
+          kept.memories;
+    }
+
+  -- what a load shows of words is what they were
+  pub as_loaded : (rows : List Row) (after : Memory) → TableLasts allows t planting record { words = s.words; homes = s.homes; views = slice_set s.views id record { passes = seated_pass p.number.0 p.layout p.planting rows ∷ []; memories = after ∷ [] } } → TableLasts allows t planting (seen_by rows after)
+  as_loaded rows after x = subst (λ ws. TableLasts allows t planting record { words = ws; homes = s.homes; views = slice_set s.views id record { passes = seated_pass p.number.0 p.layout p.planting rows ∷ []; memories = after ∷ [] } }) (sym (set_self s.words at)) x
+
+  recalls : RemembersWell t planting before p.number.0 m
+  recalls = well allows t planting s kept id v fits p m one recalled
+
+  -- a pass remembers more, and nothing else goes on
+  pub noted : (after : Memory) → after.away ≡ m.away → after.often ≡ m.often → after.rested ≡ m.rested → RemembersNames t planting before p.number.0 after → TableLasts allows t planting (seen_by kept.rows after)
+  noted after away often rested names =
+      let moved = moments_stay t (history_of planting kept.rows) kept.last kept.window.rested in
+      let later : Later t before before = later_moments t before kept.last kept.held moved kept.window in
+      as_loaded kept.rows after (goes_on s.words kept.rows kept.last kept.held after kept.sound kept.window kept.counts later (λ q d z. refl) kept.gone
+      record {
+        away = away ∙ recalls.away;
+        often = often ∙ recalls.often;
+        rested = λ z. recalls.rested (sym away ∙ z) ∙ ap (history_of planting) (sym rested);
+        names = names;
+      }
+      (λ q d. spared t planting before before later stays refl (λ u i none. refl) q)
+      (λ j d ps y. y))

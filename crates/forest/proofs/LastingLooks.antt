@@ -1,0 +1,163 @@
+-- Looks at what others have counted keep the rule of a table that lasts.
+use Rattle.std.proofs.Common.{◌≡◌, ◌≢◌, ◌+◌, ◌*◌, ◌/◌, ◌%◌, ◌<◌, ◌⊎◌, ℕ, Bool, true, false, eq-eqb, ne_eqb, List, [], ◌∷◌, Option, Some, None, slice_index, inl, inr, refl, sym, ◌∙◌, ap, subst, arith}
+use mathlib.Core.Option.{some}
+use lib.ListN.{get_elem?}
+use native.Mathlib.Decide.{ℕ_discrete}
+use Rattle.atomic_table.specs.Table.{State, Me, Act, Allows, Valid, carried_after, keeps, stepped}
+use Rattle.histories.specs.Common.{Layout, Row, History, Extends}
+use Rattle.arena.specs.ScxRecords.{bit}
+use Rattle.arena.proofs.Lemmas.{ends_self}
+use Rattle.planting.specs.Plantings.{PlantingView}
+use Rattle.slots.specs.Counts.{HasPolled, HasSeenRests, rests_place}
+use Rattle.slots.specs.Lasting.{Lasting}
+use Rattle.slots.proofs.Lemmas.{finds_away, polls, seen_now}
+use Rattle.forest.specs.Passes.{Each}
+use Rattle.forest.specs.TableRule.{history_of}
+use Rattle.forest.specs.LastingRule.{HasPolledSo, IsIn, IsPollSo, LearnsWith, Present, RemembersNames, RemembersWell, TableLasts, memory_looked, memory_polled, present, waits_of}
+use Rattle.forest.specs.declared.lasting_view.LastingView.{LastingView}
+use Rattle.forest.specs.declared.lasting_view.Memory.{Memory}
+use Rattle.forest.specs.declared.lasting_view.Polled.{Polled}
+use Rattle.forest.specs.declared.view.SeatedPass.{SeatedPass}
+use Rattle.forest.proofs.LastingKept.{Later, StaysUnborn, names_kept, spared}
+use Rattle.forest.proofs.LastingGhosts.{as_loaded, goes_on, in_each, later_moments, noted, seen_by}
+use Rattle.forest.proofs.LastingRests.{all_gone}
+use Rattle.forest.proofs.LastingSeats.{aware, learnt, now, well}
+
+waits_even : (c : ℕ) → waits_of (2 * c + 0) ≡ Some c
+waits_even c =
+    let even : (2 * c + 0) % 2 ≡ 0 = omega arith in
+    let half : (2 * c + 0) / 2 ≡ c = omega arith in
+    rw even (ap Some half)
+
+waits_odd : (c : ℕ) → waits_of (2 * c + 1) ≡ None
+waits_odd c = let odd : (2 * c + 1) % 2 ≡ 1 = omega arith in rw odd refl
+
+module _ (allows : Layout → History → ℕ → Type 0) (t : Lasting) (planting : PlantingView) (stays : StaysUnborn t.lay) (s : State ℕ LastingView) (kept : TableLasts allows t planting s) (id : ℕ) (v : LastingView) (fits : get_elem? s.views id ≡ some v) (p : SeatedPass) (m : Memory) (one : v.passes ≡ p ∷ []) (recalled : v.memories ≡ m ∷ []) (at : ℕ) (q : ℕ) where
+  abbrev h : History
+  h = history_of planting kept.rows
+
+  abbrev before : Present
+  before = now allows t planting s kept id v fits p m one recalled
+
+  recalls : RemembersWell t planting before p.number.0 m
+  recalls = well allows t planting s kept id v fits p m one recalled
+
+  -- what has been polled of q at a moment is remembered, by moments of rests that may have moved on
+  module _ (since : History) (x : HasPolled t s.words (history_of planting kept.rows) kept.last kept.held kept.tally q since) (poll : Polled) (so : IsPollSo t.lay planting (present s.words (history_of planting kept.rows) x.next kept.held kept.tally) poll) where
+    abbrev there : Present
+    there = present s.words (history_of planting kept.rows) x.next kept.held kept.tally
+
+    later : Later t before there
+    later = later_moments t before x.next kept.held x.moved x.window
+
+    rests : (k : ℕ) → kept.tally.away k ≡ false → x.next k ≡ kept.last k
+    rests k here = go (ℕ_discrete k q)
+      where
+        go : Dec (k ≡ q) → x.next k ≡ kept.last k
+        go (yes e) = subst (λ i. x.next i ≡ kept.last i) (sym e) (x.stays (subst (λ i. kept.tally.away i ≡ false) e here))
+        go (no d) = x.others k d
+
+    names : RemembersNames t planting there p.number.0 m
+    names = names_kept t planting before there later stays p.number.0 m (spared t planting before there later stays refl (λ u i none. refl) p.number.0) recalls.names
+
+    pub remembered : TableLasts allows t planting (seen_by allows t planting stays s kept id v fits p m one recalled at kept.rows record m { polls = poll ∷ m.polls })
+    remembered = as_loaded allows t planting stays s kept id v fits p m one recalled at kept.rows record m { polls = poll ∷ m.polls } (goes_on allows t planting stays s kept id v fits p m one recalled at s.words kept.rows x.next kept.held record m { polls = poll ∷ m.polls }
+        kept.sound x.window kept.counts later (λ k d. rests k)
+        (all_gone t planting before there later stays refl refl kept.gone)
+        record {
+          away = recalls.away;
+          often = recalls.often;
+          rested = λ z. rests p.number.0 (sym recalls.away ∙ z) ∙ recalls.rested z;
+          names = record { dealt = names.dealt; later = names.later; notes = names.notes; polls = (so, names.polls); holds = names.holds; empty = names.empty; zeros = names.zeros };
+        }
+        (λ k d. spared t planting before there later stays refl (λ u i none. refl) k)
+        (λ j d ps y. y))
+
+module _ (allows : Layout → History → ℕ → Type 0) (t : Lasting) (planting : PlantingView) (stays : StaysUnborn t.lay) (slots id : ℕ) (me : Me ℕ LastingView) (p : SeatedPass) (m : Memory) (one : me.0.passes ≡ p ∷ []) (recalled : me.0.memories ≡ m ∷ []) where
+  -- a first look at the word of the pass q
+  pub lasting_looks : (q : ℕ) → q < t.lay.passes → Allows (TableLasts allows t planting) slots id me (rests_place t.table q) (λ n. n) (λ n w. LearnsWith allows (memory_looked m q n) me.0 w.0 × (w.1 ≡ me.1))
+  lasting_looks q i s kept sized fits small = (
+    record { passes = aware allows t planting s kept id me.0 fits p m one recalled ∷ []; memories = memory_looked m q found kept.rows ∷ [] },
+    keeps,
+    tt,
+    go (kept.tally.away q) refl,
+    ((kept.rows, learnt allows t planting s kept id me.0 fits p m one recalled, refl), refl),
+  )
+    where
+      h : History
+      h = history_of planting kept.rows
+
+      at : ℕ
+      at = rests_place t.table q
+
+      found : ℕ
+      found = slice_index s.words at
+
+      poll : Polled
+      poll = record { pass = record { 0 = q }; since = kept.rows; waits = waits_of found }
+
+      go : (b : Bool) → kept.tally.away q ≡ b → TableLasts allows t planting (seen_by allows t planting stays s kept id me.0 fits p m one recalled at kept.rows record m { polls = poll ∷ m.polls })
+      go true e =
+          let odd : found ≡ 2 * kept.tally.count q + 1 = kept.counts.holds q i ∙ ap (λ b. 2 * kept.tally.count q + bit b) e in
+          let x = finds_away t s.words h kept.last kept.held kept.tally kept.window q (kept.tally.count q) kept.counts i odd in
+          let none : waits_of found ≡ None = ap waits_of odd ∙ waits_odd (kept.tally.count q) in
+          remembered allows t planting stays s kept id me.0 fits p m one recalled at q h x poll (i, subst (HasPolledSo (present s.words h x.next kept.held kept.tally) q h) (sym none) x.since)
+      go false e =
+          let even : found ≡ 2 * kept.tally.count q + 0 = kept.counts.holds q i ∙ ap (λ b. 2 * kept.tally.count q + bit b) e in
+          let some_seen : waits_of found ≡ Some (kept.tally.count q) = ap waits_of even ∙ waits_even (kept.tally.count q) in
+          let names = (well allows t planting s kept id me.0 fits p m one recalled).names in
+          noted allows t planting stays s kept id me.0 fits p m one recalled at record m { polls = poll ∷ m.polls } refl refl refl record {
+            dealt = names.dealt;
+            later = names.later;
+            notes = names.notes;
+            polls = ((i, subst (HasPolledSo (present s.words h kept.last kept.held kept.tally) q h) (sym some_seen) (seen_now h kept.last kept.tally q h (ends_self h))), names.polls);
+            holds = names.holds;
+            empty = names.empty;
+            zeros = names.zeros;
+          }
+
+  -- a later look at the word of a pass that had rested so often, by a poll
+  pub lasting_polls : (poll : Polled) (seen : ℕ) → IsIn poll m.polls → poll.waits ≡ Some seen → Allows (TableLasts allows t planting) slots id me (rests_place t.table poll.pass.0) (λ n. n) (λ n w. LearnsWith allows (λ rows. memory_polled m poll seen n) me.0 w.0 × (w.1 ≡ me.1))
+  lasting_polls poll seen there waits s kept sized fits small = go (ℕ_discrete found (2 * seen))
+    where
+      h : History
+      h = history_of planting kept.rows
+
+      q : ℕ
+      q = poll.pass.0
+
+      at : ℕ
+      at = rests_place t.table q
+
+      found : ℕ
+      found = slice_index s.words at
+
+      recalls : RemembersWell t planting (now allows t planting s kept id me.0 fits p m one recalled) p.number.0 m
+      recalls = well allows t planting s kept id me.0 fits p m one recalled
+
+      polled : IsPollSo t.lay planting (now allows t planting s kept id me.0 fits p m one recalled) poll
+      polled = in_each (IsPollSo t.lay planting (now allows t planting s kept id me.0 fits p m one recalled)) poll m.polls there recalls.names.polls
+
+      since : History
+      since = history_of planting poll.since
+
+      often : HasSeenRests h kept.last kept.tally q since seen
+      often = subst (HasPolledSo (now allows t planting s kept id me.0 fits p m one recalled) q since) waits polled.1
+
+      go : Dec (found ≡ 2 * seen) → (w : LastingView) × (a : Act ℕ) × Valid s.homes me.1 a × TableLasts allows t planting (stepped s at found id me.1 w a) × (LearnsWith allows (λ rows. memory_polled m poll seen found) me.0 w × (carried_after me.1 a ≡ me.1))
+      go (yes e) = (
+        record { passes = aware allows t planting s kept id me.0 fits p m one recalled ∷ []; memories = m ∷ [] },
+        keeps,
+        tt,
+        noted allows t planting stays s kept id me.0 fits p m one recalled at m refl refl refl recalls.names,
+        ((kept.rows, learnt allows t planting s kept id me.0 fits p m one recalled, rw (eq-eqb found (2 * seen) e) refl), refl),
+      )
+      go (no d) =
+          let x = polls t s.words h kept.last kept.held kept.tally kept.window q seen since kept.counts polled.0 often d in
+          let more : Polled = record poll { waits = None } in (
+            record { passes = aware allows t planting s kept id me.0 fits p m one recalled ∷ []; memories = record m { polls = more ∷ m.polls } ∷ [] },
+            keeps,
+            tt,
+            remembered allows t planting stays s kept id me.0 fits p m one recalled at q since x more (polled.0, x.since),
+            ((kept.rows, learnt allows t planting s kept id me.0 fits p m one recalled, rw (ne_eqb found (2 * seen) d) refl), refl),
+          )

@@ -1,0 +1,142 @@
+-- The rule of a table that lasts holds of the words and the seat with which it opens.
+use Rattle.std.proofs.Common.{◌≡◌, ◌≢◌, ◌+◌, ◌-◌, ◌*◌, ◌%◌, ◌<◌, ◌≤◌, ◌⊎◌, ◌++◌, ℕ, zero, suc, List, [], ◌∷◌, Some, None, length, slice_index, inl, inr, ⊎_elim, refl, sym, ◌∙◌, ap, subst, arith}
+use mathlib.Core.Option.{some, some-injective, some-ne-none}
+use lib.ListN.{get_elem?}
+use native.Mathlib.Decide.{dec_lt}
+use Rattle.atomic_table.specs.Table.{opening}
+use Rattle.histories.specs.Common.{Layout, Row, Word, History, Opened, first_node, first_scx, table_size, place, IsWord, IsTakenNode, value, IsRun}
+use Rattle.planting.specs.Plantings.{PlantingView, opening_for}
+use Rattle.resting.specs.Records.{Record, the_node, the_scx}
+use Rattle.slots.specs.Counts.{CountsRests, no_rests}
+use Rattle.slots.specs.Held.{Held, IsHeld, first_held}
+use Rattle.slots.specs.Lasting.{IsOwnName, IsOwnRecord, IsUntaken, Lasting, slot_of}
+use Rattle.slots.specs.Window.{IsWindow}
+use Rattle.slots.proofs.Lemmas.{counts_open, first_names, first_nodes_held, first_scx_held, node_lap, opens, scx_lap}
+use Rattle.forest.specs.Passes.{Each}
+use Rattle.forest.specs.TableRule.{Absent, Owns, history_of, new_passes}
+use Rattle.forest.specs.LastingRule.{AreHeldOrGone, IsDealt, IsHeldName, OpensLasting, Present, RememberWell, RemembersWell, TableLasts, first_memories, first_memory, first_view, nodes_from, plot_in, present, scx_from}
+use Rattle.forest.specs.declared.lasting_view.LastingView.{LastingView}
+use Rattle.forest.specs.declared.lasting_view.Memory.{Memory}
+use Rattle.forest.specs.declared.lasting_view.RecordNo.{RecordNo}
+use Rattle.forest.specs.declared.lasting_view.RecordNo.TheVariants.{Node, Scx}
+use Rattle.forest.specs.declared.rule.Plot.{Plot}
+use Rattle.forest.proofs.LastingSlots.{one_record_owner, own_not_first}
+
+absent_below : (plot : Plot) (k from n : ℕ) → k < from → Absent k (new_passes plot from n)
+absent_below plot k from zero h = tt
+absent_below plot k from (suc n) h = ((λ e. omega (arith, e, h)), absent_below plot k (suc from) n (omega (arith, h)))
+
+owns_new : (plot : Plot) (from n : ℕ) → Owns plot [] (λ _. 0) 0 (new_passes plot from n)
+owns_new plot from zero = tt
+owns_new plot from (suc n) = (refl, refl, ([], refl, tt), absent_below plot from (suc from) n (omega arith), owns_new plot (suc from) n)
+
+each_both : {A : Type 0} (P : A → Type 0) (xs ys : List A) → Each P xs → Each P ys → Each P (xs ++ ys)
+each_both P [] ys a b = b
+each_both P (x ∷ xs) ys a b = (a.0, each_both P xs ys a.1 b)
+
+each_node : (P : RecordNo → Type 0) (from count : ℕ) → ((i : ℕ) → i < count → P (Node record { 0 = from + i })) → Each P (nodes_from from count)
+each_node P from zero f = tt
+each_node P from (suc count) f = (subst (λ n. P (Node record { 0 = n })) (omega arith) (f 0 (omega arith)), each_node P (suc from) count (λ i less. subst (λ n. P (Node record { 0 = n })) (omega arith) (f (suc i) (omega (arith, less)))))
+
+each_scx : (P : RecordNo → Type 0) (from count : ℕ) → ((i : ℕ) → i < count → P (Scx record { 0 = from + i })) → Each P (scx_from from count)
+each_scx P from zero f = tt
+each_scx P from (suc count) f = (subst (λ n. P (Scx record { 0 = n })) (omega arith) (f 0 (omega arith)), each_scx P (suc from) count (λ i less. subst (λ n. P (Scx record { 0 = n })) (omega arith) (f (suc i) (omega (arith, less)))))
+
+none_taken : (planting : PlantingView) (n : ℕ) → ¬ IsTakenNode (Opened (opening_for planting)) n
+unfolding IsTakenNode
+none_taken planting n z = z
+
+module _ (allows : Layout → History → ℕ → Type 0) (t : Lasting) (planting : PlantingView) (words : List ℕ) (x : OpensLasting allows t planting words) where
+  abbrev start : History
+  start = Opened (opening_for planting)
+
+  abbrev held : Held
+  held = first_held t
+
+  abbrev now : Present
+  now = present words start (λ o. start) held no_rests
+
+  module _ (o : ℕ) (is_pass : o < t.lay.passes) where
+    -- the number of a name of the first lap
+    node_held : (i : ℕ) → i < t.table.nodes → IsOwnName t o (the_node (first_node t.lay o + i)) × IsHeld t held (the_node (first_node t.lay o + i))
+    node_held i small = (subst (λ n. IsOwnName t o (the_node (first_node t.lay o + n))) (omega arith) (node_lap t x.lasting o 0 i is_pass (omega arith) small).0, first_nodes_held t x.lasting o i is_pass small)
+
+    scx_held : (i : ℕ) → i < t.table.scx → IsOwnName t o (the_scx (first_scx t.lay o + i)) × IsHeld t held (the_scx (first_scx t.lay o + i))
+    scx_held i small = (subst (λ n. IsOwnName t o (the_scx (first_scx t.lay o + n))) (omega arith) (scx_lap t x.lasting o 0 i is_pass (omega arith) small).0, first_scx_held t x.lasting o i is_pass small)
+
+    dealt : (y : Record) → IsOwnRecord t.lay o y → IsDealt (first_memory t o) y → IsUntaken t.lay start y → IsHeld t held y
+    dealt (the_node n) own d free = let from = own.from in subst (λ k. IsHeld t held (the_node k)) (omega (arith, from)) (node_held (n - first_node t.lay o) (omega (arith, from, d))).1
+    dealt (the_scx s) own d free = let from = own.from in subst (λ k. IsHeld t held (the_scx k)) (omega (arith, from)) (scx_held (s - first_scx t.lay o) (omega (arith, from, d))).1
+
+    -- what a slot of the pass holds is of the first lap
+    own_slot : (y : Record) → IsOwnRecord t.lay o y → IsHeld t held y → IsOwnRecord t.table o (slot_of t y)
+    own_slot y own is = ⊎_elim (λ first. absurd (own_not_first t.lay o y own first)) (λ z. subst (λ q. IsOwnRecord t.table q (slot_of t y)) (one_record_owner t.lay z.0 o y z.2.0 own) z.2.1) ((first_names t x.lasting).own (slot_of t y) y is).name
+
+    in_lap : (y : Record) → IsOwnRecord t.lay o y → IsHeld t held y → IsDealt (first_memory t o) y
+    in_lap (the_node n) own is = go (own_slot (the_node n) own is)
+      where
+        go : IsOwnRecord t.table o (slot_of t (the_node n)) → n < first_node t.lay o + t.table.nodes
+        go slot =
+            let k : ℕ = n % t.node_turn in
+            let i : ℕ = k - first_node t.table o in
+            let from : first_node t.table o ≤ k = slot.from in
+            let below : k < first_node t.table o + t.table.nodes = slot.below in
+            let small : i < t.table.nodes = omega (arith, from, below) in
+            let lap : slot_of t (the_node (first_node t.lay o + i)) ≡ the_node (first_node t.table o + i) = ap (λ j. slot_of t (the_node j)) (omega arith) ∙ (node_lap t x.lasting o 0 i is_pass (omega arith) small).1 in
+            let same_slot : slot_of t (the_node (first_node t.lay o + i)) ≡ slot_of t (the_node n) = lap ∙ ap the_node (omega (arith, from)) in
+            let same : Some (the_node (first_node t.lay o + i)) ≡ Some (the_node n) = sym (first_nodes_held t x.lasting o i is_pass small) ∙ ap held same_slot ∙ is in
+            let number : first_node t.lay o + i ≡ n = cc in
+            omega (arith, number, small)
+    in_lap (the_scx s) own is = go (own_slot (the_scx s) own is)
+      where
+        go : IsOwnRecord t.table o (slot_of t (the_scx s)) → s < first_scx t.lay o + t.table.scx
+        go slot =
+            let k : ℕ = s % t.scx_turn in
+            let i : ℕ = k - first_scx t.table o in
+            let from : first_scx t.table o ≤ k = slot.from in
+            let below : k < first_scx t.table o + t.table.scx = slot.below in
+            let small : i < t.table.scx = omega (arith, from, below) in
+            let lap : slot_of t (the_scx (first_scx t.lay o + i)) ≡ the_scx (first_scx t.table o + i) = ap (λ j. slot_of t (the_scx j)) (omega arith) ∙ (scx_lap t x.lasting o 0 i is_pass (omega arith) small).1 in
+            let same_slot : slot_of t (the_scx (first_scx t.lay o + i)) ≡ slot_of t (the_scx s) = lap ∙ ap the_scx (omega (arith, from)) in
+            let same : Some (the_scx (first_scx t.lay o + i)) ≡ Some (the_scx s) = sym (first_scx_held t x.lasting o i is_pass small) ∙ ap held same_slot ∙ is in
+            let number : first_scx t.lay o + i ≡ s = cc in
+            omega (arith, number, small)
+
+    first_well : RemembersWell t planting now o (first_memory t o)
+    first_well = record {
+      away = refl;
+      often = refl;
+      rested = λ z. refl;
+      names = record {
+        dealt = dealt;
+        later = λ y own d is. d (in_lap y own is);
+        notes = tt;
+        polls = tt;
+        holds = each_both (IsHeldName t o now) (nodes_from (first_node t.lay o) t.table.nodes) (scx_from (first_scx t.lay o) t.table.scx) (each_node (IsHeldName t o now) (first_node t.lay o) t.table.nodes node_held) (each_scx (IsHeldName t o now) (first_scx t.lay o) t.table.scx scx_held);
+        empty = tt;
+        zeros = tt;
+      };
+    }
+
+  all_well : (from n : ℕ) → from + n ≤ t.lay.passes → RememberWell t planting now (new_passes (plot_in t planting) from n) (first_memories t from n)
+  all_well from zero few = tt
+  all_well from (suc n) few = (first_well from (omega (arith, few)), all_well (suc from) n (omega (arith, few)))
+
+  only : (P : ℕ → LastingView → Type 0) → P 0 (first_view t planting) → (j : ℕ) (v : LastingView) → get_elem? (first_view t planting ∷ []) j ≡ some v → P j v
+  only P y zero v e = subst (P 0) (some-injective (first_view t planting) v e) y
+  only P y (suc j) v e = absurd (some-ne-none v (sym e))
+
+  pub lasting_opens : TableLasts allows t planting (opening words [] (first_view t planting))
+  lasting_opens = record {
+    rows = [];
+    last = λ o. start;
+    held = held;
+    tally = no_rests;
+    sound = x.run;
+    window = opens t x.lasting words (opening_for planting) held x.map (let room = x.room in omega (arith, room)) (first_names t x.lasting) x.holds;
+    counts = counts_open t words start x.room x.zeros;
+    gone = λ n z. absurd (none_taken planting n z);
+    owner = λ _. 0;
+    passes = only (λ j v. Owns (plot_in t planting) [] (λ _. 0) j v.passes) (owns_new (plot_in t planting) 0 t.lay.passes);
+    memories = only (λ j v. RememberWell t planting now v.passes v.memories) (all_well 0 t.lay.passes (omega arith));
+  }

@@ -1,0 +1,81 @@
+-- What is known of the one pass of a seat, under the rule of a table that lasts.
+use Rattle.std.proofs.Common.{◌≡◌, ◌≢◌, ◌<◌, ℕ, zero, suc, List, [], ◌∷◌, ◌++◌, slice_index, slice_set, inl, inr, refl, sym, ◌∙◌, ap, subst}
+use mathlib.Core.Option.{some}
+use lib.ListN.{get_elem?}
+use Rattle.atomic_table.specs.Table.{State, Me, Allows, keeps}
+use Rattle.histories.specs.Common.{Layout, Row, History, ◌⊳◌, Extends, Lawful, IsRun}
+use Rattle.arena.proofs.Lemmas.{ends_self}
+use Rattle.planting.specs.Plantings.{PlantingView}
+use Rattle.prims.specs.Moments.{AreFinished}
+use Rattle.resting.specs.Rests.{IsAway}
+use Rattle.resting.proofs.Lemmas.{away_more, away_now, rested_away}
+use Rattle.slots.specs.Lasting.{Lasting}
+use Rattle.forest.specs.TableRule.{ByOthers, Owns, history_of, past_of, seated_pass}
+use Rattle.forest.specs.LastingRule.{HasLearnt, Present, RememberWell, RemembersWell, TableLasts, plot_in, present}
+use Rattle.forest.specs.declared.lasting_view.LastingView.{LastingView}
+use Rattle.forest.specs.declared.lasting_view.Memory.{Memory}
+use Rattle.forest.specs.declared.rule.Plot.{Plot}
+use Rattle.forest.specs.declared.view.SeatedPass.{SeatedPass}
+
+-- a load leaves the words as they are
+pub set_self : (words : List ℕ) (at : ℕ) → slice_set words at (slice_index words at) ≡ words
+set_self [] at = refl
+set_self (n ∷ ns) zero = refl
+set_self (n ∷ ns) (suc at) = ap (λ (l : List ℕ). n ∷ l) (set_self ns at)
+
+-- rows of others leave finished what a pass has taken
+away_behind : (lay : Layout) (planting : PlantingView) (o : ℕ) (others known : List Row) → ByOthers o others → AreFinished lay o 0 (history_of planting known) → IsAway lay (history_of planting (others ++ known)) o (history_of planting known)
+away_behind lay planting o [] known by over = away_now lay (history_of planting known) o over
+away_behind lay planting o (r ∷ rs) known by over = away_more lay (history_of planting (rs ++ known)) r o (history_of planting known) by.0 (away_behind lay planting o rs known by.1 over)
+
+pub finished_behind : (lay : Layout) (planting : PlantingView) (o : ℕ) (others known : List Row) → Lawful lay (history_of planting (others ++ known)) → ByOthers o others → AreFinished lay o 0 (history_of planting known) → AreFinished lay o 0 (history_of planting (others ++ known))
+finished_behind lay planting o others known l by over =
+    let away = away_behind lay planting o others known by over in
+    (rested_away lay (history_of planting (others ++ known)) o (history_of planting known) (history_of planting (others ++ known)) l away (ends_self (history_of planting (others ++ known))) away.within).over
+
+module _ (allows : Layout → History → ℕ → Type 0) (t : Lasting) (planting : PlantingView) (s : State ℕ LastingView) (kept : TableLasts allows t planting s) (id : ℕ) (v : LastingView) (fits : get_elem? s.views id ≡ some v) (p : SeatedPass) (m : Memory) (one : v.passes ≡ p ∷ []) (recalled : v.memories ≡ m ∷ []) where
+  -- where the table is
+  abbrev pub now : Present
+  now = present s.words (history_of planting kept.rows) kept.last kept.held kept.tally
+
+  pub own : Owns (plot_in t planting) kept.rows kept.owner id (p ∷ [])
+  own = subst (λ ps. Owns (plot_in t planting) kept.rows kept.owner id ps) one (kept.passes id v fits)
+
+  pub well : RemembersWell t planting now p.number.0 m
+  well = (subst (λ ms. RememberWell t planting now (p ∷ []) ms) recalled (subst (λ ps. RememberWell t planting now ps v.memories) one (kept.memories id v fits))).0
+
+  -- the run is what the pass knows, and rows of others
+  pub here : past_of p own.2.0 ≡ history_of planting kept.rows
+  here = ap (λ (g : Plot). history_of g.planting (own.2.0 ++ p.known)) own.1 ∙ ap (history_of planting) (sym own.2.1)
+
+  pub lay_is : p.layout ≡ t.lay
+  lay_is = ap (λ (g : Plot). g.layout) own.1
+
+  pub before : IsRun allows p.layout (past_of p own.2.0)
+  before = subst (λ l. IsRun allows l (past_of p own.2.0)) (sym lay_is) (subst (IsRun allows t.lay) (sym here) kept.sound)
+
+  -- it is still between two calls
+  pub over : AreFinished p.layout p.number.0 0 (past_of p []) → AreFinished t.lay p.number.0 0 (history_of planting kept.rows)
+  over x = subst (AreFinished t.lay p.number.0 0) here (finished_behind t.lay p.planting p.number.0 own.2.0 p.known (subst (Lawful t.lay) (sym here) kept.sound.lawful) own.2.2 (subst (λ l. AreFinished l p.number.0 0 (past_of p [])) lay_is x))
+
+  -- the pass when it knows the whole run
+  abbrev pub aware : SeatedPass
+  aware = seated_pass p.number.0 p.layout p.planting kept.rows
+
+  pub learnt : HasLearnt allows v.passes kept.rows (aware ∷ [])
+  learnt = record { pass = p; others = own.2.0; was = one; by_others = own.2.2; rows_are = own.2.1; run = before; is = refl }
+
+  pub owns_aware : Owns (plot_in t planting) kept.rows kept.owner id (aware ∷ [])
+  owns_aware = (own.0, own.1, ([], refl, tt), tt, tt)
+
+  -- a pass of another seat is another
+  pub apart : (j q : ℕ) → j ≢ id → kept.owner q ≡ j → q ≢ p.number.0
+  apart j q other owned e = other (sym owned ∙ ap kept.owner e ∙ own.0)
+
+  -- the run goes on from what the pass knows
+  pub behind_known : Extends (history_of planting kept.rows) (history_of planting p.known)
+  behind_known = subst (λ k. Extends (history_of planting k) (history_of planting p.known)) (sym own.2.1) (further own.2.0)
+    where
+      further : (others : List Row) → Extends (history_of planting (others ++ p.known)) (history_of planting p.known)
+      further [] = ends_self (history_of planting p.known)
+      further (r ∷ rs) = inr (further rs)

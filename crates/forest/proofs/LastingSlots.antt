@@ -1,0 +1,247 @@
+-- To let a slot go, and to store 0 in one that holds nothing, keep the rule of a table that lasts.
+use Rattle.std.proofs.Common.{◌≡◌, ◌≢◌, ◌<◌, ◌⊎◌, ℕ, Bool, true, false, true≢false, eq-eqb, List, [], ◌∷◌, Option, Some, None, if◌then◌else◌, slice_index, slice_set, inl, inr, ⊎_elim, refl, sym, ◌∙◌, ap, subst, arith}
+use Rattle.std.proofs.lemmas.List.{get_or-set_same, get_or-set_other}
+use mathlib.Core.Option.{some}
+use lib.ListN.{get_elem?}
+use native.Mathlib.Decide.{ℕ_discrete}
+use Rattle.atomic_table.specs.Table.{State, Me, Allows, keeps}
+use Rattle.histories.specs.Common.{Layout, Row, Word, History, Extends, place, IsWord, IsTakenNode}
+use Rattle.arena.proofs.Lemmas.{ends_self}
+use Rattle.histories.proofs.Lemmas.{one_node_owner, one_scx_owner}
+use Rattle.planting.specs.Plantings.{PlantingView}
+use Rattle.touching.proofs.Lemmas.{taken_scx_since}
+use Rattle.resting.specs.Records.{Record, record_of, the_node, the_scx}
+use Rattle.resting.proofs.Lemmas.{taken_node_since}
+use Rattle.slots.specs.Counts.{CountsRests}
+use Rattle.slots.specs.Held.{Held, IsHeld, same_record, with_slot}
+use Rattle.slots.specs.Lasting.{IsFirstRecord, IsOwnName, IsOwnRecord, IsUntaken, Lasting, slot_of}
+use Rattle.slots.specs.Window.{IsWindow}
+use Rattle.slots.proofs.Lemmas.{cleans, counts_stores, lets_go, place_inside, record_discrete, with_other, with_same}
+use Rattle.forest.specs.Passes.{Each}
+use Rattle.forest.specs.TableRule.{history_of, past_of}
+use Rattle.forest.specs.LastingRule.{AreHeldOrGone, IsEmptySlot, IsGone, IsGoneRecord, IsHeldName, IsIn, IsNoteSo, IsZeroWord, LearnsWith, Present, RemembersNames, RemembersWell, TableLasts, WasTaken, memory_cleared, memory_let_go, noted_as, present, record_at, slot_number, without}
+use Rattle.forest.specs.declared.lasting_view.LastingView.{LastingView}
+use Rattle.forest.specs.declared.lasting_view.Memory.{Memory}
+use Rattle.forest.specs.declared.lasting_view.NoteView.TheVariants.{OutOfReach}
+use Rattle.forest.specs.declared.lasting_view.RecordNo.{RecordNo}
+use Rattle.forest.specs.declared.lasting_view.RecordNo.TheVariants.{Node, Scx}
+use Rattle.forest.specs.declared.rule.Plot.{Plot}
+use Rattle.forest.specs.declared.view.SeatedPass.{SeatedPass}
+use Rattle.forest.proofs.LastingKept.{Later, Spares, StaysUnborn, each_kept, note_kept, poll_kept, remember_kept, spared}
+use Rattle.forest.proofs.LastingGhosts.{as_loaded, goes_on, in_each, later_moments, moments_stay}
+use Rattle.forest.proofs.LastingSeats.{aware, behind_known, learnt, now, own, well}
+
+-- Records
+
+pub own_not_first : (lay : Layout) (o : ℕ) (x : Record) → IsOwnRecord lay o x → ¬ IsFirstRecord lay x
+own_not_first lay o (the_node n) own first = let from = own.from in omega (arith, from, first)
+own_not_first lay o (the_scx s) own first = let from = own.from in omega (arith, from, first)
+
+pub one_record_owner : (lay : Layout) (c d : ℕ) (x : Record) → IsOwnRecord lay c x → IsOwnRecord lay d x → c ≡ d
+one_record_owner lay c d (the_node n) a b = one_node_owner lay c d n a b
+one_record_owner lay c d (the_scx s) a b = one_scx_owner lay c d s a b
+
+pub slot_number_is : (t : Lasting) (name : RecordNo) → record_at (slot_number t name) ≡ slot_of t (record_at name)
+slot_number_is t (Node n) = refl
+slot_number_is t (Scx s) = refl
+
+not_taken : (lay : Layout) (h : History) (x : Record) → IsUntaken lay h x → WasTaken h x → ⊥
+not_taken lay h (the_node n) free taken = free.1 taken
+not_taken lay h (the_scx s) free taken = free.1 taken
+
+pub taken_since : (h m : History) (x : Record) → Extends h m → WasTaken m x → WasTaken h x
+taken_since h m (the_node n) e taken = taken_node_since h m n e taken
+taken_since h m (the_scx s) e taken = taken_scx_since h m s e taken
+
+pub same_self : (x : Record) → same_record x x ≡ true
+same_self (the_node n) = eq-eqb n n refl
+same_self (the_scx s) = eq-eqb s s refl
+
+pub each_without : (P Q : RecordNo → Type 0) (x : Record) → ((n : RecordNo) → ¬ (record_at n ≡ x) → P n → Q n) → (ns : List RecordNo) → Each P ns → Each Q (without x ns)
+each_without P Q x f [] y = tt
+each_without P Q x f (n ∷ ns) y = go (same_record (record_at n) x) refl (each_without P Q x f ns y.1)
+  where
+    go : (b : Bool) → same_record (record_at n) x ≡ b → Each Q (without x ns) → Each Q (if b then without x ns else n ∷ without x ns)
+    go true e z = z
+    go false e z = (f n (λ is. true≢false (sym (same_self x) ∙ ap (λ k. same_record k x) (sym is) ∙ e)) y.0, z)
+
+-- What slots hold once one of them holds nothing
+
+module _ (t : Lasting) (held : Held) (x : Record) (is : IsHeld t held x) where
+  still_held : (y : Record) → ¬ (y ≡ x) → IsHeld t held y → IsHeld t (with_slot held (slot_of t x) None) y
+  still_held y d z = with_other held (slot_of t x) (slot_of t y) None (λ e. d (let q : Some y ≡ Some x = sym z ∙ ap held e ∙ is in cc)) ∙ z
+
+  never_held : (y : Record) → ¬ IsHeld t held y → ¬ IsHeld t (with_slot held (slot_of t x) None) y
+  never_held y d z = go (record_discrete (slot_of t y) (slot_of t x))
+    where
+      go : Dec (slot_of t y ≡ slot_of t x) → ⊥
+      go (yes e) = let q : None ≡ Some y = sym (with_same held (slot_of t x) None) ∙ ap (with_slot held (slot_of t x) None) (sym e) ∙ z in cc
+      go (no e) = d (sym (with_other held (slot_of t x) (slot_of t y) None e) ∙ z)
+
+  still_none : (s : Record) → held s ≡ None → with_slot held (slot_of t x) None s ≡ None
+  still_none s none = go (record_discrete s (slot_of t x))
+    where
+      go : Dec (s ≡ slot_of t x) → with_slot held (slot_of t x) None s ≡ None
+      go (yes e) = ap (with_slot held (slot_of t x) None) e ∙ with_same held (slot_of t x) None
+      go (no d) = with_other held (slot_of t x) s None d ∙ none
+
+module _ (allows : Layout → History → ℕ → Type 0) (t : Lasting) (planting : PlantingView) (stays : StaysUnborn t.lay) (slots id : ℕ) (me : Me ℕ LastingView) (p : SeatedPass) (m : Memory) (one : me.0.passes ≡ p ∷ []) (recalled : me.0.memories ≡ m ∷ []) where
+  -- the slot of a name that is out of reach holds nothing from now on, at a load of any word
+  pub lasting_lets_go : (at : ℕ) (name : RecordNo) → IsIn name m.holds → IsIn (noted_as name OutOfReach) m.notes → WasTaken (past_of p []) (record_at name) → Allows (TableLasts allows t planting) slots id me at (λ n. n) (λ n w. LearnsWith allows (λ rows. memory_let_go t m name) me.0 w.0 × (w.1 ≡ me.1))
+  lasting_lets_go at name held_name noted_so taken s kept sized fits small = (
+    record { passes = aware allows t planting s kept id me.0 fits p m one recalled ∷ []; memories = memory_let_go t m name ∷ [] },
+    keeps,
+    tt,
+    as_loaded allows t planting stays s kept id me.0 fits p m one recalled at kept.rows (memory_let_go t m name)
+        (goes_on allows t planting stays s kept id me.0 fits p m one recalled at s.words kept.rows kept.last held (memory_let_go t m name) kept.sound window kept.counts later (λ q d z. refl) gone
+        record { away = recalls.away; often = recalls.often; rested = recalls.rested; names = names }
+        spares (λ j d ps y. y)),
+    ((kept.rows, learnt allows t planting s kept id me.0 fits p m one recalled, refl), refl),
+  )
+    where
+      o : ℕ
+      o = p.number.0
+
+      x : Record
+      x = record_at name
+
+      h : History
+      h = history_of planting kept.rows
+
+      before : Present
+      before = now allows t planting s kept id me.0 fits p m one recalled
+
+      recalls : RemembersWell t planting before o m
+      recalls = well allows t planting s kept id me.0 fits p m one recalled
+
+      mine : IsHeldName t o before name
+      mine = in_each (IsHeldName t o before) name m.holds held_name recalls.names.holds
+
+      out : IsNoteSo t.lay planting o before x OutOfReach
+      out = in_each (λ n. IsNoteSo t.lay planting o before (record_at n.name) n.note) (noted_as name OutOfReach) m.notes noted_so recalls.names.notes
+
+      was_taken : WasTaken h x
+      was_taken = taken_since h (history_of planting p.known) x (behind_known allows t planting s kept id me.0 fits p m one recalled) (subst (λ g. WasTaken (history_of g p.known) x) (ap (λ (g : Plot). g.planting) (own allows t planting s kept id me.0 fits p m one recalled).1) taken)
+
+      held : Held
+      held = with_slot kept.held (slot_of t x) None
+
+      window : IsWindow t s.words h kept.last held
+      window = lets_go t s.words h kept.last kept.held kept.window x mine.1 (own_not_first t.lay o x mine.0.0) (inr out.0)
+
+      there : Present
+      there = present s.words h kept.last held kept.tally
+
+      later : Later t before there
+      later = later_moments t before kept.last held (moments_stay t h kept.last kept.window.rested) window
+
+      gone : AreHeldOrGone t there
+      gone n z = go (record_discrete (the_node n) x) (kept.gone n z)
+        where
+          go : Dec (the_node n ≡ x) → IsHeld t kept.held (the_node n) ⊎ IsGone t.lay h kept.last n → IsHeld t held (the_node n) ⊎ IsGone t.lay h kept.last n
+          go d (inr g) = inr g
+          go (yes e) (inl is) = inr (subst (IsGoneRecord t.lay h kept.last) (sym e) out.1)
+          go (no d) (inl is) = inl (still_held t kept.held x mine.1 (the_node n) d is)
+
+      empty_kept : (q : ℕ) (k : RecordNo) → IsEmptySlot t q before k → IsEmptySlot t q there k
+      empty_kept q k e = (e.0, still_none t kept.held x mine.1 (record_at k) e.1)
+
+      zeros_kept : (q : ℕ) (u : Word) → IsZeroWord t q before u → IsZeroWord t q there u
+      zeros_kept q u e = record { is_word = e.is_word; own = e.own; none = still_none t kept.held x mine.1 (record_of u) e.none; zero = e.zero }
+
+      names : RemembersNames t planting there o (memory_let_go t m name)
+      names = record {
+        dealt = λ y its_own d free. still_held t kept.held x mine.1 y (λ e. not_taken t.lay h y free (subst (WasTaken h) (sym e) was_taken)) (recalls.names.dealt y its_own d free);
+        later = λ y its_own d. never_held t kept.held x mine.1 y (recalls.names.later y its_own d);
+        notes = each_kept _ _ (λ n. note_kept t planting before there later stays o (record_at n.name) n.note) m.notes recalls.names.notes;
+        polls = each_kept _ _ (poll_kept t planting before there later stays) m.polls recalls.names.polls;
+        holds = each_without (IsHeldName t o before) (IsHeldName t o there) x (λ n d e. (e.0, still_held t kept.held x mine.1 (record_at n) d e.1)) m.holds recalls.names.holds;
+        empty = ((subst (IsOwnRecord t.table o) (sym (slot_number_is t name)) mine.0.1, ap held (slot_number_is t name) ∙ with_same kept.held (slot_of t x) None), each_kept _ _ (empty_kept o) m.empty recalls.names.empty);
+        zeros = each_kept _ _ (zeros_kept o) m.zeros recalls.names.zeros;
+      }
+
+      spares : (q : ℕ) → q ≢ o → Spares t planting before there later stays q
+      spares q d = record {
+        held = λ y its_own is. still_held t kept.held x mine.1 y (λ e. d (one_record_owner t.lay q o x (subst (IsOwnRecord t.lay q) e its_own) mine.0.0)) is;
+        free = λ y its_own not. never_held t kept.held x mine.1 y not;
+        empty = empty_kept q;
+        zeros = zeros_kept q;
+      }
+
+  -- a word of a slot that holds nothing is stored 0
+  pub lasting_clears : (u : Word) (slot : RecordNo) → IsIn slot m.empty → record_at slot ≡ record_of u → IsWord t.table u → Allows (TableLasts allows t planting) slots id me (place t.table u) (λ n. 0) (λ n w. LearnsWith allows (λ rows. memory_cleared m u) me.0 w.0 × (w.1 ≡ me.1))
+  lasting_clears u slot empty of_slot is_word s kept sized fits small = (
+    record { passes = aware allows t planting s kept id me.0 fits p m one recalled ∷ []; memories = memory_cleared m u ∷ [] },
+    keeps,
+    tt,
+    goes_on allows t planting stays s kept id me.0 fits p m one recalled at words kept.rows kept.last kept.held (memory_cleared m u) kept.sound window counts later (λ q d z. refl) gone
+        record { away = recalls.away; often = recalls.often; rested = recalls.rested; names = names }
+        (λ q d. spares q) (λ j d ps y. y),
+    ((kept.rows, learnt allows t planting s kept id me.0 fits p m one recalled, refl), refl),
+  )
+    where
+      o : ℕ
+      o = p.number.0
+
+      at : ℕ
+      at = place t.table u
+
+      h : History
+      h = history_of planting kept.rows
+
+      before : Present
+      before = now allows t planting s kept id me.0 fits p m one recalled
+
+      recalls : RemembersWell t planting before o m
+      recalls = well allows t planting s kept id me.0 fits p m one recalled
+
+      mine : IsEmptySlot t o before slot
+      mine = in_each (IsEmptySlot t o before) slot m.empty empty recalls.names.empty
+
+      none : kept.held (record_of u) ≡ None
+      none = ap kept.held (sym of_slot) ∙ mine.1
+
+      words : List ℕ
+      words = slice_set s.words at 0
+
+      window : IsWindow t words h kept.last kept.held
+      window = cleans t s.words h kept.last kept.held kept.window u 0 is_word none
+
+      counts : CountsRests t words h kept.tally
+      counts = counts_stores t s.words h kept.tally kept.counts at 0 (place_inside t.table u is_word)
+
+      there : Present
+      there = present words h kept.last kept.held kept.tally
+
+      later : Later t before there
+      later = record { run = window.run; within = ends_self h; moved = moments_stay t h kept.last kept.window.rested; seen = λ q k n i y. y }
+
+      gone : AreHeldOrGone t there
+      gone n z = kept.gone n z
+
+      cleared : slice_index words at ≡ 0
+      cleared = get_or-set_same s.words at 0 0 (let inside = place_inside t.table u is_word in let size = kept.window.size in omega (arith, inside, size))
+
+      zero_kept : (k : Word) → slice_index s.words (place t.table k) ≡ 0 → slice_index words (place t.table k) ≡ 0
+      zero_kept k zero = go (ℕ_discrete (place t.table k) at)
+        where
+          go : Dec (place t.table k ≡ at) → slice_index words (place t.table k) ≡ 0
+          go (yes e) = ap (slice_index words) e ∙ cleared
+          go (no d) = get_or-set_other s.words at (place t.table k) 0 0 d ∙ zero
+
+      zeros_kept : (q : ℕ) (k : Word) → IsZeroWord t q before k → IsZeroWord t q there k
+      zeros_kept q k e = record { is_word = e.is_word; own = e.own; none = e.none; zero = zero_kept k e.zero }
+
+      names : RemembersNames t planting there o (memory_cleared m u)
+      names = record {
+        dealt = recalls.names.dealt;
+        later = recalls.names.later;
+        notes = each_kept _ _ (λ n. note_kept t planting before there later stays o (record_at n.name) n.note) m.notes recalls.names.notes;
+        polls = each_kept _ _ (poll_kept t planting before there later stays) m.polls recalls.names.polls;
+        holds = recalls.names.holds;
+        empty = recalls.names.empty;
+        zeros = (record { is_word = is_word; own = subst (IsOwnRecord t.table o) of_slot mine.0; none = none; zero = cleared }, each_kept _ _ (zeros_kept o) m.zeros recalls.names.zeros);
+      }
+
+      spares : (q : ℕ) → Spares t planting before there later stays q
+      spares q = record { held = λ y its_own is. is; free = λ y its_own not. not; empty = λ k e. e; zeros = zeros_kept q }

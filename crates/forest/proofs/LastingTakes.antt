@@ -1,0 +1,345 @@
+-- A pass gives a slot that is clean its next name, under the rule of a table that lasts.
+use Rattle.std.proofs.Common.{◌≡◌, ◌≢◌, ◌+◌, ◌<◌, ◌≤◌, ◌⊎◌, ◌++◌, ℕ, suc, Bool, true, false, true≢false, List, [], ◌∷◌, Option, Some, None, if◌then◌else◌, slice_index, inl, inr, ⊎_elim, refl, sym, ◌∙◌, ap, subst, arith}
+use mathlib.Core.Option.{some}
+use lib.ListN.{get_elem?}
+use native.Mathlib.Decide.{dec_lt}
+use Rattle.atomic_table.specs.Table.{State, Me, Allows, keeps}
+use Rattle.histories.specs.Common.{Layout, Row, Word, History, Extends, opening_nodes, place, IsWord, IsOwnNode, IsOwnScx, IsTakenNode, Lawful, IsRun, Remaining, HasNode, HasScx}
+use Rattle.arena.proofs.Lemmas.{ends_self}
+use Rattle.histories.proofs.Lemmas.{lawful_tail}
+use Rattle.planting.specs.Plantings.{PlantingView}
+use Rattle.ordered_map.specs.Paths.{WasInTree}
+use Rattle.prims.specs.Shares.{IsShare}
+use Rattle.prims.proofs.Lemmas.{share_by_others}
+use Rattle.resting.specs.Records.{Record, record_of, the_node, the_scx}
+use Rattle.resting.specs.Rests.{HaveMovedOn}
+use Rattle.slots.specs.Counts.{with_rest}
+use Rattle.slots.specs.Held.{Held, IsHeld, same_record, with_slot}
+use Rattle.slots.specs.Lasting.{IsNameOf, IsOwnName, IsOwnRecord, IsUntaken, Lasting, slot_of}
+use Rattle.slots.specs.Window.{IsWindow}
+use Rattle.slots.proofs.Lemmas.{none_passed, passes_over, record_discrete, rest_other, rest_same, seen_moves, takes, with_other, with_same}
+use Rattle.forest.specs.Passes.{Each}
+use Rattle.forest.specs.TableRule.{ByOthers, Owns, history_of, past_of, seated_pass}
+use Rattle.forest.specs.LastingRule.{AreHeldOrGone, GoesOnWith, IsDealt, IsEmptySlot, IsGone, IsHeldName, IsZeroWord, MayTake, Present, RemembersNames, RemembersWell, TableLasts, memory_with, memory_with_node, memory_with_scx, node_ahead, past_nodes, past_scxs, plot_in, present, record_at, scx_ahead, without, without_words}
+use Rattle.forest.specs.declared.lasting_view.LastingView.{LastingView}
+use Rattle.forest.specs.declared.lasting_view.Memory.{Memory}
+use Rattle.forest.specs.declared.lasting_view.RecordNo.{RecordNo}
+use Rattle.forest.specs.declared.rule.Plot.{Plot}
+use Rattle.forest.specs.declared.view.SeatedPass.{SeatedPass}
+use Rattle.forest.proofs.LastingKept.{Later, Spares, StaysUnborn, each_kept, gone_kept, note_kept, poll_kept, untaken_before}
+use Rattle.forest.proofs.LastingGhosts.{as_loaded, goes_on, in_each, seen_by}
+use Rattle.forest.proofs.LastingNames.{GoesOn, IsReady, PassedNodes, PassedScx, passes_all_scx, passes_nodes}
+use Rattle.forest.proofs.LastingRests.{moves_now}
+use Rattle.forest.proofs.LastingSeats.{now, over, own, well}
+use Rattle.forest.proofs.LastingSlots.{each_without, one_record_owner, same_self}
+
+-- rows of others leave a share as it is
+share_behind : (lay : Layout) (planting : PlantingView) (o : ℕ) (left : Remaining) (n s : ℕ) (others known : List Row) → o < lay.passes → Lawful lay (history_of planting (others ++ known)) → ByOthers o others → IsShare lay (history_of planting known) o left n s → IsShare lay (history_of planting (others ++ known)) o left n s
+share_behind lay planting o left n s [] known is_pass l by x = x
+share_behind lay planting o left n s (r ∷ rs) known is_pass l by x = share_by_others lay (history_of planting (rs ++ known)) r o left n s l is_pass by.0 (share_behind lay planting o left n s rs known is_pass (lawful_tail lay (history_of planting (rs ++ known)) r l) by.1 x)
+
+each_without_words : (P Q : Word → Type 0) (x : Record) → ((w : Word) → ¬ (record_of w ≡ x) → P w → Q w) → (ws : List Word) → Each P ws → Each Q (without_words x ws)
+each_without_words P Q x f [] y = tt
+each_without_words P Q x f (w ∷ ws) y = go (same_record (record_of w) x) refl (each_without_words P Q x f ws y.1)
+  where
+    go : (b : Bool) → same_record (record_of w) x ≡ b → Each Q (without_words x ws) → Each Q (if b then without_words x ws else w ∷ without_words x ws)
+    go true e z = z
+    go false e z = (f w (λ is. true≢false (sym (same_self x) ∙ ap (λ k. same_record k x) (sym is) ∙ e)) y.0, z)
+
+-- What slots hold once one that held nothing holds x
+
+module _ (t : Lasting) (held : Held) (slot x : Record) (none : held slot ≡ None) where
+  abbrev with_x : Held
+  with_x = with_slot held slot (Some x)
+
+  still : (y : Record) → IsHeld t held y → IsHeld t with_x y
+  still y is = with_other held slot (slot_of t y) (Some x) (λ e. let q : None ≡ Some y = sym none ∙ ap held (sym e) ∙ is in cc) ∙ is
+
+  new_or_still : (y : Record) → IsHeld t with_x y → (x ≡ y) ⊎ IsHeld t held y
+  new_or_still y is = go (record_discrete (slot_of t y) slot)
+    where
+      go : Dec (slot_of t y ≡ slot) → (x ≡ y) ⊎ IsHeld t held y
+      go (yes e) = inl (let q : Some x ≡ Some y = sym (with_same held slot (Some x)) ∙ ap with_x (sym e) ∙ is in cc)
+      go (no d) = inr (sym (with_other held slot (slot_of t y) (Some x) d) ∙ is)
+
+-- It may give the slot this name, once the run has gone on to these rows; then it remembers so much.
+module _ (allows : Layout → History → ℕ → Type 0) (t : Lasting) (planting : PlantingView) (stays : StaysUnborn t.lay) (s : State ℕ LastingView) (kept : TableLasts allows t planting s) (id : ℕ) (v : LastingView) (fits : get_elem? s.views id ≡ some v) (p : SeatedPass) (m : Memory) (one : v.passes ≡ p ∷ []) (recalled : v.memories ≡ m ∷ []) (at : ℕ) (left : Remaining) (name slot : RecordNo) (nodes_to scx_to : ℕ) (may : MayTake t p m left name slot) where
+  abbrev o : ℕ
+  o = p.number.0
+
+  abbrev x : Record
+  x = record_at name
+
+  abbrev before : Present
+  before = now allows t planting s kept id v fits p m one recalled
+
+  pub recalls : RemembersWell t planting before p.number.0 m
+  recalls = well allows t planting s kept id v fits p m one recalled
+
+  pub owned : Owns (plot_in t planting) kept.rows kept.owner id (p ∷ [])
+  owned = own allows t planting s kept id v fits p m one recalled
+
+  pub is_there : kept.tally.away p.number.0 ≡ false
+  is_there = sym recalls.away ∙ may.there
+
+  pub its_share : IsShare t.lay (history_of planting kept.rows) p.number.0 left left.next_node left.next_scx
+  its_share = subst (λ l. IsShare t.lay (history_of planting l) p.number.0 left left.next_node left.next_scx) (sym owned.2.1)
+      (share_behind t.lay planting p.number.0 left left.next_node left.next_scx owned.2.0 p.known may.is_pass (subst (λ l. Lawful t.lay (history_of planting l)) owned.2.1 kept.sound.lawful) owned.2.2
+      (subst (λ (g : Plot). IsShare g.layout (history_of g.planting p.known) p.number.0 left left.next_node left.next_scx) owned.1 may.share))
+
+  pub goes_now : GoesOn allows t planting kept.held kept.last kept.tally s.words kept.owner id p.number.0 owned.0 kept.rows may.is_pass is_there kept.rows
+  goes_now = record { sound = kept.sound; within = ends_self (history_of planting kept.rows); rested = kept.window.rested; counts = kept.counts; seen = λ q l n y. y; grows = λ j other ps y. y }
+
+  module _ (rows : List Row) (ready : IsReady allows t planting kept.held kept.last kept.tally s.words kept.owner id p.number.0 owned.0 kept.rows may.is_pass is_there (record_at name) m (memory_with m name slot nodes_to scx_to rows) rows) where
+    abbrev k : History
+    k = history_of planting rows
+
+    abbrev last : ℕ → History
+    last = with_rest kept.last p.number.0 (history_of planting rows)
+
+    abbrev after : Memory
+    after = memory_with m name slot nodes_to scx_to rows
+
+    abbrev held : Held
+    held = with_slot kept.held (record_at slot) (Some (record_at name))
+
+    abbrev there : Present
+    there = present s.words k last held kept.tally
+
+    empty_slot : IsEmptySlot t p.number.0 before slot
+    empty_slot = in_each (IsEmptySlot t p.number.0 before) slot m.empty may.empty recalls.names.empty
+
+    none : kept.held (record_at slot) ≡ None
+    none = empty_slot.1
+
+    window : IsWindow t s.words k last held
+    window = takes t s.words k last kept.held (passes_over t s.words (history_of planting kept.rows) k kept.last kept.held o kept.window ready.goes.within ready.run ready.passed may.is_pass ready.over) (record_at slot) x none
+        record { slot_is = may.slot_is; name = inr (o, may.is_pass, may.own) } ready.free
+        (λ w is_word of_slot. (in_each (IsZeroWord t o before) w m.zeros (may.zeros w is_word of_slot) recalls.names.zeros).zero)
+
+    moved : HaveMovedOn t.lay k kept.last last
+    moved = moves_now t k kept.last o ready.goes.rested
+
+    later : Later t before there
+    later = record { run = ready.run; within = ready.goes.within; moved = moved; seen = λ q l n i y. seen_moves k kept.last kept.tally q l n (ready.goes.seen q l n y) t last i moved }
+
+    x_held : IsHeld t held x
+    x_held = ap held may.slot_is ∙ with_same kept.held (record_at slot) (Some x)
+
+    still_held : (y : Record) → IsHeld t kept.held y → IsHeld t held y
+    still_held = still t kept.held (record_at slot) x none
+
+    unborn : (n : ℕ) → IsTakenNode k n → IsOwnNode t.lay o n × (¬ WasInTree k n) → IsGone t.lay k last n
+    unborn n z y = inr (inr (o, may.is_pass, record { own = y.0; taken = subst (λ l. IsTakenNode l n) (sym (rest_same kept.last o k)) z; never = subst (λ l. ¬ WasInTree l n) (sym (rest_same kept.last o k)) y.1 }))
+
+    gone : AreHeldOrGone t there
+    gone n z = ⊎_elim (λ y. ⊎_elim (λ is. inl (still_held (the_node n) is)) (λ g. inr (gone_kept t planting before there later stays n g)) (kept.gone n y)) (λ y. inr (unborn n z y)) (ready.others n z)
+
+    dealt : (y : Record) → IsOwnRecord t.lay o y → IsDealt after y → IsUntaken t.lay k y → IsHeld t held y
+    dealt y its_own d free = ⊎_elim (λ e. subst (IsHeld t held) (sym e) x_held) (λ old. still_held y (recalls.names.dealt y its_own old (untaken_before t planting before there later stays y free))) (ready.dealt y its_own d free)
+
+    undealt : (y : Record) → IsOwnRecord t.lay o y → ¬ IsDealt after y → ¬ IsHeld t held y
+    undealt y its_own d is = ⊎_elim (λ e. d (subst (IsDealt after) e ready.itself)) (recalls.names.later y its_own (ready.undealt y d)) (new_or_still t kept.held (record_at slot) x none y is)
+
+    slot_kept : (y : Record) → ¬ (y ≡ record_at slot) → kept.held y ≡ None → held y ≡ None
+    slot_kept y d e = with_other kept.held (record_at slot) y (Some x) d ∙ e
+
+    names : RemembersNames t planting there o after
+    names = record {
+      dealt = dealt;
+      later = undealt;
+      notes = each_kept _ _ (λ n. note_kept t planting before there later stays o (record_at n.name) n.note) m.notes recalls.names.notes;
+      polls = each_kept _ _ (poll_kept t planting before there later stays) m.polls recalls.names.polls;
+      holds = ((may.own, x_held), each_kept _ _ (λ n e. (e.0, still_held (record_at n) e.1)) m.holds recalls.names.holds);
+      empty = each_without (IsEmptySlot t o before) (IsEmptySlot t o there) (record_at slot) (λ n d e. (e.0, slot_kept (record_at n) d e.1)) m.empty recalls.names.empty;
+      zeros = each_without_words (IsZeroWord t o before) (IsZeroWord t o there) (record_at slot) (λ w d e. record { is_word = e.is_word; own = e.own; none = slot_kept (record_of w) d e.none; zero = e.zero }) m.zeros recalls.names.zeros;
+    }
+
+    not_mine : (q : ℕ) → q ≢ o → (y : Record) → IsOwnRecord t.table q y → ¬ (y ≡ record_at slot)
+    not_mine q d y its_own e = d (one_record_owner t.table q o (record_at slot) (subst (IsOwnRecord t.table q) e its_own) empty_slot.0)
+
+    spares : (q : ℕ) → q ≢ p.number.0 → Spares t planting before there later stays q
+    spares q d = record {
+      held = λ y its_own is. still_held y is;
+      free = λ y its_own not is. ⊎_elim (λ e. d (one_record_owner t.lay q o y its_own (subst (IsOwnRecord t.lay o) e may.own.0))) not (new_or_still t kept.held (record_at slot) x none y is);
+      empty = λ n e. (e.0, slot_kept (record_at n) (not_mine q d (record_at n) e.0) e.1);
+      zeros = λ w e. record { is_word = e.is_word; own = e.own; none = slot_kept (record_of w) (not_mine q d (record_of w) e.own) e.none; zero = e.zero };
+    }
+
+    pub name_taken : TableLasts allows t planting (seen_by allows t planting stays s kept id v fits p m one recalled at rows after)
+    name_taken = as_loaded allows t planting stays s kept id v fits p m one recalled at rows after
+        (goes_on allows t planting stays s kept id v fits p m one recalled at s.words rows last held after ready.goes.sound window ready.goes.counts later (λ q d z. rest_other kept.last o k q d) gone
+        record { away = recalls.away; often = recalls.often; rested = λ z. rest_same kept.last o k; names = names }
+        spares ready.goes.grows)
+
+module _ (allows : Layout → History → ℕ → Type 0) (t : Lasting) (planting : PlantingView) (stays : StaysUnborn t.lay) (slots id : ℕ) (me : Me ℕ LastingView) (p : SeatedPass) (m : Memory) (one : me.0.passes ≡ p ∷ []) (recalled : me.0.memories ≡ m ∷ []) (at count : ℕ) (left : Remaining) (slot : RecordNo) where
+  -- the next name of a node but so many, at a load of any word
+  pub lasting_nodes : MayTake t p m left (node_ahead m count) slot → left.next_node ≡ m.nodes_to → Allows (TableLasts allows t planting) slots id me at (λ n. n) (λ n w. GoesOnWith allows (past_nodes p.number.0 m.nodes_to count) (memory_with_node m count slot) me.0 w.0 × (w.1 ≡ me.1))
+  lasting_nodes may all s kept sized fits small = (
+    record { passes = seated_pass o p.layout p.planting rows ∷ []; memories = memory_with_node m count slot rows ∷ [] },
+    keeps,
+    tt,
+    name_taken allows t planting stays s kept id me.0 fits p m one recalled at left (node_ahead m count) slot (m.nodes_to + suc count) m.scx_to may rows ready,
+    (
+      record {
+        pass = p;
+        others = mine.2.0;
+        was = one;
+        by_others = mine.2.2;
+        run = subst (λ (g : Plot). IsRun allows g.layout (history_of g.planting (past_nodes o m.nodes_to count g.planting (mine.2.0 ++ p.known)))) (sym mine.1) (subst (λ l. IsRun allows t.lay (history_of planting (past_nodes o m.nodes_to count planting l))) mine.2.1 passed.goes.sound);
+        passes = ap (λ l. seated_pass o p.layout p.planting l ∷ []) rows_are;
+        memories = ap (λ l. memory_with_node m count slot l ∷ []) rows_are;
+      },
+      refl,
+    ),
+  )
+    where
+      o : ℕ
+      o = p.number.0
+
+      mine : Owns (plot_in t planting) kept.rows kept.owner id (p ∷ [])
+      mine = owned allows t planting stays s kept id me.0 fits p m one recalled at left (node_ahead m count) slot (m.nodes_to + suc count) m.scx_to may
+
+      known : RemembersWell t planting (now allows t planting s kept id me.0 fits p m one recalled) o m
+      known = recalls allows t planting stays s kept id me.0 fits p m one recalled at left (node_ahead m count) slot (m.nodes_to + suc count) m.scx_to may
+
+      rows : List Row
+      rows = past_nodes o m.nodes_to count planting kept.rows
+
+      rows_are : rows ≡ past_nodes o m.nodes_to count p.planting (mine.2.0 ++ p.known)
+      rows_are = ap (λ l. past_nodes o m.nodes_to count planting l) mine.2.1 ∙ ap (λ (g : Plot). past_nodes o m.nodes_to count g.planting (mine.2.0 ++ p.known)) (sym mine.1)
+
+      share : IsShare t.lay (history_of planting kept.rows) o left left.next_node left.next_scx
+      share = its_share allows t planting stays s kept id me.0 fits p m one recalled at left (node_ahead m count) slot (m.nodes_to + suc count) m.scx_to may
+
+      is_left : (n : ℕ) → IsOwnNode t.lay o n → m.nodes_to ≤ n → HasNode left n
+      is_left n its_own more = record { from = (let e = all in omega (arith, e, more)); below = (let e = share.to_node in let b = its_own.below in omega (arith, e, b)) }
+
+      own_between : (n : ℕ) → m.nodes_to ≤ n → n < m.nodes_to + count → IsOwnNode t.lay o n
+      own_between n more less = record { from = (let a = share.from_node in let e = all in omega (arith, a, e, more)); below = (let b = may.own.0.below in omega (arith, b, less)) }
+
+      begins : PassedNodes allows t planting kept.held kept.last kept.tally s.words kept.owner id o mine.0 kept.rows may.is_pass (is_there allows t planting stays s kept id me.0 fits p m one recalled at left (node_ahead m count) slot (m.nodes_to + suc count) m.scx_to may) m.nodes_to kept.rows
+      begins = record {
+        goes = goes_now allows t planting stays s kept id me.0 fits p m one recalled at left (node_ahead m count) slot (m.nodes_to + suc count) m.scx_to may;
+        run = kept.window.run;
+        over = over allows t planting s kept id me.0 fits p m one recalled may.over;
+        passed = none_passed t kept.held kept.last o (history_of planting kept.rows);
+        taken = λ n its_own less. share.taken_nodes n its_own (let e = all in omega (arith, e, less));
+        untaken = λ n its_own more. share.untaken_nodes n (is_left n its_own more);
+        unmentioned = λ n its_own more. share.unmentioned n (is_left n its_own more);
+        others = λ n z. inl z;
+      }
+
+      passed : PassedNodes allows t planting kept.held kept.last kept.tally s.words kept.owner id o mine.0 kept.rows may.is_pass (is_there allows t planting stays s kept id me.0 fits p m one recalled at left (node_ahead m count) slot (m.nodes_to + suc count) m.scx_to may) (m.nodes_to + count) rows
+      passed = passes_nodes allows t planting kept.held kept.last kept.tally s.words kept.owner id o mine.0 kept.rows may.is_pass (is_there allows t planting stays s kept id me.0 fits p m one recalled at left (node_ahead m count) slot (m.nodes_to + suc count) m.scx_to may) count m.nodes_to kept.rows begins
+          (λ n more less. (own_between n more less, known.names.later (the_node n) (own_between n more less) (λ z. omega (arith, more, z))))
+
+      dealt : (y : Record) → IsOwnRecord t.lay o y → IsDealt (memory_with_node m count slot rows) y → IsUntaken t.lay (history_of planting rows) y → (y ≡ the_node (m.nodes_to + count)) ⊎ IsDealt m y
+      dealt (the_node n) its_own d free = go (dec_lt n (m.nodes_to + count))
+        where
+          go : Dec (n < m.nodes_to + count) → (the_node n ≡ the_node (m.nodes_to + count)) ⊎ (n < m.nodes_to)
+          go (yes less) = absurd (free.1 (passed.taken n its_own less))
+          go (no more) = inl (ap the_node (omega (arith, d, more)))
+      dealt (the_scx i) its_own d free = inr d
+
+      undealt : (y : Record) → ¬ IsDealt (memory_with_node m count slot rows) y → ¬ IsDealt m y
+      undealt (the_node n) d z = d (omega (arith, z))
+      undealt (the_scx i) d z = d z
+
+      ready : IsReady allows t planting kept.held kept.last kept.tally s.words kept.owner id o mine.0 kept.rows may.is_pass (is_there allows t planting stays s kept id me.0 fits p m one recalled at left (node_ahead m count) slot (m.nodes_to + suc count) m.scx_to may) (the_node (m.nodes_to + count)) m (memory_with_node m count slot rows) rows
+      ready = record {
+        goes = passed.goes;
+        run = passed.run;
+        over = passed.over;
+        passed = passed.passed;
+        free = ((let a = may.own.0.from in omega (arith, a)), passed.untaken (m.nodes_to + count) may.own.0 (omega arith));
+        dealt = dealt;
+        undealt = undealt;
+        itself = omega arith;
+        others = passed.others;
+      }
+
+  -- and of an SCX-record
+  pub lasting_scx : MayTake t p m left (scx_ahead m count) slot → left.next_scx ≡ m.scx_to → Allows (TableLasts allows t planting) slots id me at (λ n. n) (λ n w. GoesOnWith allows (past_scxs p.number.0 m.scx_to count) (memory_with_scx m count slot) me.0 w.0 × (w.1 ≡ me.1))
+  lasting_scx may all s kept sized fits small = (
+    record { passes = seated_pass o p.layout p.planting rows ∷ []; memories = memory_with_scx m count slot rows ∷ [] },
+    keeps,
+    tt,
+    name_taken allows t planting stays s kept id me.0 fits p m one recalled at left (scx_ahead m count) slot m.nodes_to (m.scx_to + suc count) may rows ready,
+    (
+      record {
+        pass = p;
+        others = mine.2.0;
+        was = one;
+        by_others = mine.2.2;
+        run = subst (λ (g : Plot). IsRun allows g.layout (history_of g.planting (past_scxs o m.scx_to count g.planting (mine.2.0 ++ p.known)))) (sym mine.1) (subst (λ l. IsRun allows t.lay (history_of planting (past_scxs o m.scx_to count planting l))) mine.2.1 passed.goes.sound);
+        passes = ap (λ l. seated_pass o p.layout p.planting l ∷ []) rows_are;
+        memories = ap (λ l. memory_with_scx m count slot l ∷ []) rows_are;
+      },
+      refl,
+    ),
+  )
+    where
+      o : ℕ
+      o = p.number.0
+
+      mine : Owns (plot_in t planting) kept.rows kept.owner id (p ∷ [])
+      mine = owned allows t planting stays s kept id me.0 fits p m one recalled at left (scx_ahead m count) slot m.nodes_to (m.scx_to + suc count) may
+
+      known : RemembersWell t planting (now allows t planting s kept id me.0 fits p m one recalled) o m
+      known = recalls allows t planting stays s kept id me.0 fits p m one recalled at left (scx_ahead m count) slot m.nodes_to (m.scx_to + suc count) may
+
+      rows : List Row
+      rows = past_scxs o m.scx_to count planting kept.rows
+
+      rows_are : rows ≡ past_scxs o m.scx_to count p.planting (mine.2.0 ++ p.known)
+      rows_are = ap (λ l. past_scxs o m.scx_to count planting l) mine.2.1 ∙ ap (λ (g : Plot). past_scxs o m.scx_to count g.planting (mine.2.0 ++ p.known)) (sym mine.1)
+
+      share : IsShare t.lay (history_of planting kept.rows) o left left.next_node left.next_scx
+      share = its_share allows t planting stays s kept id me.0 fits p m one recalled at left (scx_ahead m count) slot m.nodes_to (m.scx_to + suc count) may
+
+      is_left : (n : ℕ) → IsOwnScx t.lay o n → m.scx_to ≤ n → HasScx left n
+      is_left n its_own more = record { from = (let e = all in omega (arith, e, more)); below = (let e = share.to_scx in let b = its_own.below in omega (arith, e, b)) }
+
+      own_between : (n : ℕ) → m.scx_to ≤ n → n < m.scx_to + count → IsOwnScx t.lay o n
+      own_between n more less = record { from = (let a = share.from_scx in let e = all in omega (arith, a, e, more)); below = (let b = may.own.0.below in omega (arith, b, less)) }
+
+      begins : PassedScx allows t planting kept.held kept.last kept.tally s.words kept.owner id o mine.0 kept.rows may.is_pass (is_there allows t planting stays s kept id me.0 fits p m one recalled at left (scx_ahead m count) slot m.nodes_to (m.scx_to + suc count) may) m.scx_to kept.rows
+      begins = record {
+        goes = goes_now allows t planting stays s kept id me.0 fits p m one recalled at left (scx_ahead m count) slot m.nodes_to (m.scx_to + suc count) may;
+        run = kept.window.run;
+        over = over allows t planting s kept id me.0 fits p m one recalled may.over;
+        passed = none_passed t kept.held kept.last o (history_of planting kept.rows);
+        taken = λ n its_own less. share.taken_scx n its_own (let e = all in omega (arith, e, less));
+        untaken = λ n its_own more. share.untaken n (is_left n its_own more);
+        others = λ n z. z;
+      }
+
+      passed : PassedScx allows t planting kept.held kept.last kept.tally s.words kept.owner id o mine.0 kept.rows may.is_pass (is_there allows t planting stays s kept id me.0 fits p m one recalled at left (scx_ahead m count) slot m.nodes_to (m.scx_to + suc count) may) (m.scx_to + count) rows
+      passed = passes_all_scx allows t planting kept.held kept.last kept.tally s.words kept.owner id o mine.0 kept.rows may.is_pass (is_there allows t planting stays s kept id me.0 fits p m one recalled at left (scx_ahead m count) slot m.nodes_to (m.scx_to + suc count) may) count m.scx_to kept.rows begins
+          (λ n more less. (own_between n more less, known.names.later (the_scx n) (own_between n more less) (λ z. omega (arith, more, z))))
+
+      dealt : (y : Record) → IsOwnRecord t.lay o y → IsDealt (memory_with_scx m count slot rows) y → IsUntaken t.lay (history_of planting rows) y → (y ≡ the_scx (m.scx_to + count)) ⊎ IsDealt m y
+      dealt (the_scx n) its_own d free = go (dec_lt n (m.scx_to + count))
+        where
+          go : Dec (n < m.scx_to + count) → (the_scx n ≡ the_scx (m.scx_to + count)) ⊎ (n < m.scx_to)
+          go (yes less) = absurd (free.1 (passed.taken n its_own less))
+          go (no more) = inl (ap the_scx (omega (arith, d, more)))
+      dealt (the_node i) its_own d free = inr d
+
+      undealt : (y : Record) → ¬ IsDealt (memory_with_scx m count slot rows) y → ¬ IsDealt m y
+      undealt (the_scx n) d z = d (omega (arith, z))
+      undealt (the_node i) d z = d z
+
+      ready : IsReady allows t planting kept.held kept.last kept.tally s.words kept.owner id o mine.0 kept.rows may.is_pass (is_there allows t planting stays s kept id me.0 fits p m one recalled at left (scx_ahead m count) slot m.nodes_to (m.scx_to + suc count) may) (the_scx (m.scx_to + count)) m (memory_with_scx m count slot rows) rows
+      ready = record {
+        goes = passed.goes;
+        run = passed.run;
+        over = passed.over;
+        passed = passed.passed;
+        free = ((λ e. let a = may.own.0.from in omega (arith, a, e)), passed.untaken (m.scx_to + count) may.own.0 (omega arith));
+        dealt = dealt;
+        undealt = undealt;
+        itself = omega arith;
+        others = λ n z. inl (passed.others n z);
+      }

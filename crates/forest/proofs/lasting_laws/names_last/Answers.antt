@@ -1,0 +1,12 @@
+use Rattle.forest.proofs.LastingOpens.{lasting_opens}
+use Rattle.forest.proofs.LastingTakes.{lasting_nodes, lasting_scx}
+use Rattle.forest.proofs.lasting_laws.names_last.Goals as goal
+
+pub returns-clause-opens : goal.returns-clause-opens
+returns-clause-opens g c = lasting_opens g.S.Shape.allows
+
+pub returns-clause-nodes : goal.returns-clause-nodes
+returns-clause-nodes g c = λ t planting slots id me p m at count left slot one recalled. lasting_nodes g.S.Shape.allows t planting (λ h o rest n. c.unborn_stays_out.ensures.stays t.lay h o rest n) slots id me p m one recalled at count left slot
+
+pub returns-clause-scx : goal.returns-clause-scx
+returns-clause-scx g c = λ t planting slots id me p m at count left slot one recalled. lasting_scx g.S.Shape.allows t planting (λ h o rest n. c.unborn_stays_out.ensures.stays t.lay h o rest n) slots id me p m one recalled at count left slot

@@ -1,0 +1,149 @@
+//! What keeps the rule of a table that lasts: what its seats may do, and what they learn.
+ghost use Rattle.std.specs.Prelude.{◌≡◌, ◌≢◌, ◌+◌, ◌*◌, ◌<◌, ◌≤◌, ℕ, suc, List, [], ◌∷◌, Some, slice_index};
+ghost use Rattle.atomic_table.specs.Table.{Allows, Me, opening};
+ghost use Rattle.arena.specs.declared.layout.Layout.{Layout};
+ghost use Rattle.arena.specs.declared.step.Row.{Row};
+ghost use Rattle.arena.specs.declared.word.Word.{Word};
+ghost use Rattle.arena.specs.History.{History};
+ghost use Rattle.arena.specs.Layout.{IsWord, place};
+ghost use Rattle.arena.specs.Machines.{IsRun, IsTold};
+ghost use Rattle.arena.specs.Share.{Remaining};
+ghost use Rattle.histories.specs.Common.{word_after};
+ghost use Rattle.ordered_map.specs.Runs.{IsMapRun};
+ghost use Rattle.planting.specs.Plantings.{PlantingView};
+ghost use Rattle.prims.specs.Moments.{AreFinished};
+ghost use Rattle.resting.specs.Records.{record_of};
+ghost use Rattle.slots.specs.Counts.{rests_place};
+ghost use Rattle.slots.specs.Lasting.{Lasting, table_place};
+ghost use Rattle.forest.specs.LastingRule.{GoesOnWith, HasRestedSince, IsBefore, IsIn, LearnsWith, MayStepOn, MayTake, OpensLasting, TableLasts, WasTaken, first_view, memory_away, memory_cleared, memory_let_go, memory_looked, memory_noted, memory_polled, memory_rested, memory_with_node, memory_with_scx, node_ahead, noted_as, past_nodes, past_scxs, record_at, scx_ahead};
+ghost use Rattle.forest.specs.Passes.{Each};
+ghost use Rattle.forest.specs.TableRule.{Made, history_of, past_of};
+ghost use Rattle.forest.specs.declared.lasting_view.LastingView.{LastingView};
+ghost use Rattle.forest.specs.declared.lasting_view.Memory.{Memory};
+ghost use Rattle.forest.specs.declared.lasting_view.Noted.{Noted};
+ghost use Rattle.forest.specs.declared.lasting_view.NoteView.{NoteView};
+ghost use Rattle.forest.specs.declared.lasting_view.Polled.{Polled};
+ghost use Rattle.forest.specs.declared.lasting_view.RecordNo.{RecordNo};
+ghost use Rattle.forest.specs.declared.rule.CallStep.{CallStep};
+ghost use Rattle.forest.specs.declared.view.SeatedPass.{SeatedPass};
+
+use arena::Shape;
+use resting::{dead_comes_back, notes_hold, unborn_stays_out};
+
+/// A pass that is there makes a step of a map's call that began when it had rested last, or later,
+/// on a word of a record in its slot. It tells what such a step tells in a table that is filled
+/// once, and leaves what the pass remembers. It does nothing; a caller learns this from its
+/// contract.
+pub fn steps_last<S: Shape>()
+    ensures { (t : Lasting) (planting : PlantingView)
+        (slots id : ℕ) (me : Me ℕ LastingView) (said : CallStep) (at : ℕ) (f told : ℕ → ℕ)
+        (p : SeatedPass) (m : Memory)
+        → ((h : History) → IsRun S.allows t.lay h → IsMapRun t.lay h)
+        → at ≡ table_place t said.step.word
+        → ((n : ℕ) → f n ≡ word_after said.step.access n)
+        → ((n : ℕ) → IsTold said.step.access n (told n))
+        → me.0.passes ≡ p ∷ [] → me.0.memories ≡ m ∷ [] → MayStepOn S.allows said p m
+        → Allows (TableLasts S.allows t planting) slots id me at f
+        (λ n w. Made S.allows said me.0.passes (told n) w.0.passes
+        × (w.0.memories ≡ me.0.memories) × (w.1 ≡ me.1)) }
+{
+    unborn_stays_out();
+}
+
+/// A pass that is between two calls rests, or comes back, by one store, and goes away by one. It
+/// does nothing; a caller learns this from its contract.
+pub fn rests_last<S: Shape>()
+    ensures rests { (t : Lasting) (planting : PlantingView)
+        (slots id : ℕ) (me : Me ℕ LastingView) (p : SeatedPass) (m : Memory)
+        → me.0.passes ≡ p ∷ [] → me.0.memories ≡ m ∷ [] → p.number.0 < t.lay.passes
+        → AreFinished p.layout p.number.0 0 (past_of p [])
+        → Allows (TableLasts S.allows t planting) slots id me (rests_place t.table p.number.0)
+        (λ n. 2 * suc m.often)
+        (λ n w. LearnsWith S.allows (memory_rested m) me.0 w.0 × (w.1 ≡ me.1)) }
+    ensures leaves { (t : Lasting) (planting : PlantingView)
+        (slots id : ℕ) (me : Me ℕ LastingView) (p : SeatedPass) (m : Memory)
+        → me.0.passes ≡ p ∷ [] → me.0.memories ≡ m ∷ [] → p.number.0 < t.lay.passes
+        → AreFinished p.layout p.number.0 0 (past_of p [])
+        → Allows (TableLasts S.allows t planting) slots id me (rests_place t.table p.number.0)
+        (λ n. 2 * m.often + 1)
+        (λ n w. LearnsWith S.allows (λ rows. memory_away m) me.0 w.0 × (w.1 ≡ me.1)) }
+{
+    unborn_stays_out();
+}
+
+/// A pass looks at how often another has rested, and looks again; and when it knows that all have
+/// rested since a moment, what it has noted of names by then goes on. It does nothing; a caller
+/// learns this from its contract.
+pub fn looks_last<S: Shape>()
+    ensures first { (t : Lasting) (planting : PlantingView)
+        (slots id : ℕ) (me : Me ℕ LastingView) (p : SeatedPass) (m : Memory) (q : ℕ)
+        → me.0.passes ≡ p ∷ [] → me.0.memories ≡ m ∷ [] → q < t.lay.passes
+        → Allows (TableLasts S.allows t planting) slots id me (rests_place t.table q) (λ n. n)
+        (λ n w. LearnsWith S.allows (memory_looked m q n) me.0 w.0 × (w.1 ≡ me.1)) }
+    ensures again { (t : Lasting) (planting : PlantingView)
+        (slots id : ℕ) (me : Me ℕ LastingView) (p : SeatedPass) (m : Memory) (poll : Polled)
+        (seen : ℕ) → me.0.passes ≡ p ∷ [] → me.0.memories ≡ m ∷ []
+        → IsIn poll m.polls → poll.waits ≡ Some seen
+        → Allows (TableLasts S.allows t planting) slots id me (rests_place t.table poll.pass.0) (λ n. n)
+        (λ n w. LearnsWith S.allows (λ rows. memory_polled m poll seen n) me.0 w.0
+        × (w.1 ≡ me.1)) }
+    ensures notes { (t : Lasting) (planting : PlantingView)
+        (slots id : ℕ) (me : Me ℕ LastingView) (p : SeatedPass) (m : Memory) (at : ℕ)
+        (since : List Row) (chosen : List Noted) → me.0.passes ≡ p ∷ []
+        → me.0.memories ≡ m ∷ [] → p.number.0 < t.lay.passes → HasRestedSince t.lay p m since
+        → Each (λ n. IsIn n m.notes × IsBefore p.planting (history_of p.planting since) n.note)
+        chosen
+        → Allows (TableLasts S.allows t planting) slots id me at (λ n. n)
+        (λ n w. LearnsWith S.allows (memory_noted m chosen) me.0 w.0 × (w.1 ≡ me.1)) }
+{
+    unborn_stays_out();
+    dead_comes_back();
+    notes_hold();
+}
+
+/// A slot whose record is out of reach holds nothing from now on, and its words are stored 0. It
+/// does nothing; a caller learns this from its contract.
+pub fn slots_last<S: Shape>()
+    ensures lets_go { (t : Lasting)
+        (planting : PlantingView) (slots id : ℕ) (me : Me ℕ LastingView) (p : SeatedPass)
+        (m : Memory) (at : ℕ) (name : RecordNo) → me.0.passes ≡ p ∷ []
+        → me.0.memories ≡ m ∷ [] → IsIn name m.holds
+        → IsIn (noted_as name NoteView.OutOfReach) m.notes
+        → WasTaken (past_of p []) (record_at name)
+        → Allows (TableLasts S.allows t planting) slots id me at (λ n. n)
+        (λ n w. LearnsWith S.allows (λ rows. memory_let_go t m name) me.0 w.0 × (w.1 ≡ me.1)) }
+    ensures zeros { (t : Lasting) (planting : PlantingView)
+        (slots id : ℕ) (me : Me ℕ LastingView) (p : SeatedPass) (m : Memory) (word : Word)
+        (slot : RecordNo) → me.0.passes ≡ p ∷ [] → me.0.memories ≡ m ∷ []
+        → IsIn slot m.empty → record_at slot ≡ record_of word → IsWord t.table word
+        → Allows (TableLasts S.allows t planting) slots id me (place t.table word) (λ n. 0)
+        (λ n w. LearnsWith S.allows (λ rows. memory_cleared m word) me.0 w.0 × (w.1 ≡ me.1)) }
+{
+    unborn_stays_out();
+}
+
+/// A pass gives a clean slot its next name, and passes over names on the way; and so a table opens.
+/// It does nothing; a caller learns this from its contract.
+pub fn names_last<S: Shape>()
+    ensures opens { (t : Lasting) (planting : PlantingView)
+        (words : List ℕ) → OpensLasting S.allows t planting words
+        → TableLasts S.allows t planting (opening words [] (first_view t planting)) }
+    ensures nodes { (t : Lasting) (planting : PlantingView)
+        (slots id : ℕ) (me : Me ℕ LastingView) (p : SeatedPass) (m : Memory) (at count : ℕ)
+        (left : Remaining) (slot : RecordNo) → me.0.passes ≡ p ∷ []
+        → me.0.memories ≡ m ∷ [] → MayTake t p m left (node_ahead m count) slot
+        → left.next_node ≡ m.nodes_to
+        → Allows (TableLasts S.allows t planting) slots id me at (λ n. n)
+        (λ n w. GoesOnWith S.allows (past_nodes p.number.0 m.nodes_to count)
+        (memory_with_node m count slot) me.0 w.0 × (w.1 ≡ me.1)) }
+    ensures scx { (t : Lasting) (planting : PlantingView)
+        (slots id : ℕ) (me : Me ℕ LastingView) (p : SeatedPass) (m : Memory) (at count : ℕ)
+        (left : Remaining) (slot : RecordNo) → me.0.passes ≡ p ∷ []
+        → me.0.memories ≡ m ∷ [] → MayTake t p m left (scx_ahead m count) slot
+        → left.next_scx ≡ m.scx_to
+        → Allows (TableLasts S.allows t planting) slots id me at (λ n. n)
+        (λ n w. GoesOnWith S.allows (past_scxs p.number.0 m.scx_to count)
+        (memory_with_scx m count slot) me.0 w.0 × (w.1 ≡ me.1)) }
+{
+    unborn_stays_out();
+}

@@ -1,0 +1,72 @@
+//! What a seat of a table that lasts knows. No value of these types is made.
+use crate::view::SeatedPass;
+use arena::{NodeNo, PassNo, Row, ScxNo, Word};
+use std::collections::LinkedList;
+
+/// The number of a node or of an SCX-record: a name, or that of a slot.
+pub enum RecordNo {
+    /// A node.
+    Node(NodeNo),
+    /// An SCX-record.
+    Scx(ScxNo),
+}
+
+/// What a pass has noted of a name. A run says after which rows, the newest first.
+pub enum NoteView {
+    /// It was marked or dead then.
+    MarkedOrDead(LinkedList<Row>),
+    /// It was dead then, or before.
+    DeadBy(LinkedList<Row>),
+    /// It is out of reach, and gone for good.
+    OutOfReach,
+}
+
+/// A name, and what a pass has noted of it.
+pub struct Noted {
+    /// The name.
+    pub name: RecordNo,
+    /// What is noted.
+    pub note: NoteView,
+}
+
+/// What a pass has polled of another since a moment.
+pub struct Polled {
+    /// The other pass.
+    pub pass: PassNo,
+    /// The run up to that moment.
+    pub since: LinkedList<Row>,
+    /// How often the other had rested by then; nothing once it has rested since.
+    pub waits: Option<u64>,
+}
+
+/// What a pass remembers from one call to the next.
+pub struct Memory {
+    /// The run up to its last rest, the newest row first.
+    pub rested: LinkedList<Row>,
+    /// Whether it is away.
+    pub away: bool,
+    /// How often it has rested.
+    pub often: u64,
+    /// Its names below this one are dealt: of these each is held until it is taken.
+    pub nodes_to: u64,
+    /// The same of SCX-records.
+    pub scx_to: u64,
+    /// What it has noted of names.
+    pub notes: LinkedList<Noted>,
+    /// What it has polled.
+    pub polls: LinkedList<Polled>,
+    /// Own names that their slots hold.
+    pub holds: LinkedList<RecordNo>,
+    /// Own slots that hold nothing.
+    pub empty: LinkedList<RecordNo>,
+    /// Words of such slots that are 0.
+    pub zeros: LinkedList<Word>,
+}
+
+/// The passes of a seat, each of this seat alone, and what they remember, in the same order.
+pub struct LastingView {
+    /// The passes.
+    pub passes: LinkedList<SeatedPass>,
+    /// What they remember.
+    pub memories: LinkedList<Memory>,
+}
