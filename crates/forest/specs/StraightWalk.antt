@@ -103,6 +103,10 @@ module _ {M : Type 0} {o : Calls M} (w : Walker o) (ps : List SeatedPass) where
   abbrev pub WalkerIsAt : Way → Goal → Reached → Type 0
   WalkerIsAt way goal place = WalkerWaits (way_at way goal place.trail place.at) place.turns (load LoadSettled (node place.trail.node.0 (Settled HeadWord)))
 
+  -- its walk by this way to this goal has found this in the head of the node that it has reached
+  abbrev pub WalkerHasHead : Way → Goal → Reached → ℕ → Type 0
+  WalkerHasHead way goal place head = WalkerIsTold (way_at way goal place.trail place.at) place.turns head
+
   -- its walk by this way to this goal waits for the head of the root, with which it begins
   abbrev pub WalksFromRoot : Way → Goal → Type 0
   WalksFromRoot way goal = WalkerWaits (way_from way goal) no_turns (load LoadSettled (node 0 (Settled HeadWord)))

@@ -3,10 +3,10 @@ ghost use Rattle.std.specs.Prelude.{◌≡◌, ◌≢◌, ◌<◌, ◌≤◌, �
 ghost use Rattle.arena.specs.Heads.{head_of};
 ghost use Rattle.arena.specs.Layout.{node_start};
 ghost use Rattle.forest.specs.Leads.{steps_made};
-ghost use Rattle.forest.specs.Hands.{IsAt};
+ghost use Rattle.forest.specs.Hands.{IsAt, hand_calls};
 ghost use Rattle.forest.specs.Seats.{StaysAtTable};
 ghost use Rattle.forest.specs.Traces.{shared_nodes};
-ghost use Rattle.forest.specs.StraightWalk.{AsksHead, HasWalked, IsAskedFork, MayWalk, MayWalkFrom, WalkEnds, WalkEndsFrom, WalkFinds, WalkGoesDown, with_turn_if};
+ghost use Rattle.forest.specs.StraightWalk.{AsksHead, HasWalked, IsAskedFork, MayWalk, MayWalkFrom, WalkEnds, WalkEndsFrom, WalkFinds, WalkGoesDown, Walker, WalkerFinds, WalkerHasHead, WalksNearer, with_turn_if};
 ghost use Rattle.order.specs.LastTurns.{SharesKey, SharesNoKey};
 ghost use Rattle.order.specs.declared.last_turns.LastTurns.{LastTurns};
 ghost use Rattle.template.specs.FoundLeaf.{asked_key, path_key};
@@ -18,7 +18,7 @@ ghost use Rattle.template.specs.Walk.Steps.{room, walk_left};
 use crate::call_machine::CallMachine;
 use crate::straight::hand::Hand;
 use crate::straight::last_walk;
-use crate::straight::node::{Reached, end_with, is_leaf, read, start_for};
+use crate::straight::node::{Reached, descend, end_with, is_leaf, read};
 use crate::view::SeatView;
 use arena::{Head, Kind, NodeNo, NodeWord, SettledPart, Shape, Side, Slot};
 use atomic_table::Seat;
@@ -286,10 +286,99 @@ fn pass_by_key<S: Shape, M: CallMachine<S>>(
     Ok((side_of(goal, key), counts_below(way, goal, key)))
 }
 
-/// Continues after the head of a node that begins there: on a side of a fork, or to the end at a
-/// leaf.
+/// Goes down from a fork by its key, and loads the head of the child; or ends there, where the walk
+/// goes no further.
 #[inline(always)]
-fn pass<S: Shape, M: CallMachine<S>>(
+fn step_by_key<S: Shape, M: CallMachine<S>>(
+    hand: Hand<S>,
+    seat: &mut Seat<u8, SeatView>,
+    way: Way,
+    goal: Goal,
+    place: Reached,
+    word: u64,
+) -> Result<(Reached, u64), Found>
+    requires table { IsAt hand seat.old }
+    requires stands { AsksHead hand.layout.now place.trail place.at place.start }
+    requires asks { IsAskedFork goal (head_of word) }
+    requires told { (w : Walker (hand_calls S.Shape M.Machine hand))
+        × WalkerHasHead w seat.old.me.0.passes way goal place word }
+    ensures table { StaysAtTable seat.old seat.new }
+    ensures stands { IfOk result (λ to.
+        AsksHead hand.entry.layout.now to.0.trail to.0.at to.0.start) }
+    ensures nearer { IfOk result (λ to.
+        3 + walk_left to.0.at (room way (shared_nodes hand.entry.layout.now))
+        ≤ walk_left place.at (room way (shared_nodes hand.entry.layout.now))) }
+    ensures steps { MatchResult result (λ _. steps_made seat.new ≡ steps_made seat.old + 3)
+        (λ _. steps_made seat.new ≡ suc (steps_made seat.old)) }
+    ensures told { IfOk result (λ to. (w : Walker (hand_calls S.Shape M.Machine hand.entry))
+        → WalkerHasHead w seat.old.me.0.passes way goal place word
+        → WalkerHasHead w seat.new.me.0.passes way goal to.0 to.1) }
+    ensures finds { IfErr result (λ found. (w : Walker (hand_calls S.Shape M.Machine hand.entry))
+        → WalkerHasHead w seat.old.me.0.passes way goal place word
+        → WalkerFinds w seat.new.me.0.passes way goal place.turns found) }
+{
+    let (trail, start, at) = (place.trail, place.start, place.at);
+    let (side, counts) = match pass_by_key::<S, M>(hand, seat, way, goal, trail, start, at, word) {
+        Ok(to) => to,
+        Err(found) => return Err(found),
+    };
+    let turns = with_turn(place.turns, counts, side, trail.node);
+    let turned = Reached { turns, ..place };
+    let below = descend::<S, M>(hand, seat, way, goal, turned, word, side);
+    let (kind, part) = (Kind::LoadSettled, NodeWord::Settled(SettledPart::Head));
+    let head = read::<S, M>(hand, seat, kind, below.trail.node, below.start, part);
+    Ok((below, head))
+}
+
+/// Goes down as long as there are forks whose keys the walk loads, in a loop of its own: so its last
+/// test is whether there is one more. Answers where it is then, and the head there; or how it ends.
+#[inline(always)]
+fn descend_by_keys<S: Shape, M: CallMachine<S>>(
+    hand: Hand<S>,
+    seat: &mut Seat<u8, SeatView>,
+    way: Way,
+    goal: Goal,
+    first: Reached,
+    head: u64,
+) -> Result<(Reached, u64), (Found, LastTurns)>
+    requires table { IsAt hand seat.old }
+    requires stands { AsksHead hand.layout.now first.trail first.at first.start }
+    requires told { (w : Walker (hand_calls S.Shape M.Machine hand))
+        × WalkerHasHead w seat.old.me.0.passes way goal first head }
+    ensures table { StaysAtTable seat.old seat.new }
+    ensures stands { IfOk result (λ to.
+        AsksHead hand.entry.layout.now to.0.trail to.0.at to.0.start) }
+    ensures open { IfOk result (λ to.
+        (head_of to.1).leaf ≡ false → asks_key goal (head_of to.1) ≡ false) }
+    ensures nearer { IfOk result (λ to. WalksNearer seat.old seat.new
+        (walk_left first.at (room way (shared_nodes hand.entry.layout.now)))
+        (walk_left to.0.at (room way (shared_nodes hand.entry.layout.now)))) }
+    ensures steps { IfErr result (λ _. steps_made seat.new ≤ steps_made seat.old
+        + walk_left first.at (room way (shared_nodes hand.entry.layout.now))) }
+    ensures told { IfOk result (λ to. (w : Walker (hand_calls S.Shape M.Machine hand.entry))
+        → WalkerHasHead w seat.old.me.0.passes way goal first head
+        → WalkerHasHead w seat.new.me.0.passes way goal to.0 to.1) }
+    ensures finds { IfErr result (λ ends. (w : Walker (hand_calls S.Shape M.Machine hand.entry))
+        → WalkerHasHead w seat.old.me.0.passes way goal first head
+        → WalkerFinds w seat.new.me.0.passes way goal ends.1 ends.0) }
+{
+    let (mut place, mut word) = (first, head);
+    while asks_key(goal, word) {
+        match step_by_key::<S, M>(hand, seat, way, goal, place, word) {
+            Ok(to) => {
+                place = to.0;
+                word = to.1;
+            }
+            Err(found) => return Err((found, place.turns)),
+        }
+    }
+    Ok((place, word))
+}
+
+/// Continues after the head of a node that begins there, which is no fork whose key the walk loads:
+/// on a side of a fork, or to the end at a leaf.
+#[inline(always)]
+fn pass_open<S: Shape, M: CallMachine<S>>(
     hand: Hand<S>,
     seat: &mut Seat<u8, SeatView>,
     way: Way,
@@ -302,18 +391,16 @@ fn pass<S: Shape, M: CallMachine<S>>(
     requires first { (more : ℕ) → goal_slot goal more ≡ Slot.First }
     requires table { IsAt hand seat.old }
     requires stands { AsksHead hand.layout.now trail at start }
+    requires open { (head_of word).leaf ≡ false → asks_key goal (head_of word) ≡ false }
     requires told { HasWalked S.Shape M.Machine hand seat.old (way_at way goal trail at) word }
     ensures table { StaysAtTable seat.old seat.new }
-    ensures steps { MatchResult result (λ _. steps_made seat.new ≤ steps_made seat.old + 1)
+    ensures steps { MatchResult result (λ _. steps_made seat.new ≡ steps_made seat.old)
         (λ _. steps_made seat.new ≤ steps_made seat.old + 7) }
     ensures down { IfOk result (λ to. WalkGoesDown S.Shape M.Machine hand.entry seat.old
         (way_at way goal trail at) word seat.new to.0 to.1) }
     ensures finds { IfErr result (WalkFinds S.Shape M.Machine hand.entry seat.old
         (way_at way goal trail at) word seat.new) }
 {
-    if asks_key(goal, word) {
-        return pass_by_key::<S, M>(hand, seat, way, goal, trail, start, at, word);
-    }
     if is_leaf(word) {
         return Err(end::<S, M>(hand, seat, way, goal, trail, start, at, word));
     }
@@ -321,7 +408,7 @@ fn pass<S: Shape, M: CallMachine<S>>(
 }
 
 /// The walk by this way from a place on to the leaf where a key is, or would be, or to the first
-/// leaf, and the last forks where it turned.
+/// leaf, and the last forks where it turned. Forks whose keys it loads have a loop of their own.
 #[inline(always)]
 fn to_goal_from<S: Shape, M: CallMachine<S>>(
     hand: Hand<S>,
@@ -347,29 +434,24 @@ fn to_goal_from<S: Shape, M: CallMachine<S>>(
         number: hand.number,
         size: hand.size,
     };
-    let (mut trail, mut start) = (first.trail, first.start);
-    let (mut at, mut turns) = (first.at, first.turns);
+    let mut place = first;
     loop {
-        let node = trail.node;
         let (kind, part) = (Kind::LoadSettled, NodeWord::Settled(SettledPart::Head));
-        let word = read::<S, M>(hand, seat, kind, node, start, part);
-        let head = Head::of(word);
-        let (side, counts) = match pass::<S, M>(hand, seat, way, goal, trail, start, at, word) {
+        let head = read::<S, M>(hand, seat, kind, place.trail.node, place.start, part);
+        let (last, word) = match descend_by_keys::<S, M>(hand, seat, way, goal, place, head) {
+            Ok(below) => below,
+            Err(ends) => return ends,
+        };
+        let (trail, start, at) = (last.trail, last.start, last.at);
+        let (side, counts) = match pass_open::<S, M>(
+            hand, seat, way, goal, trail, start, at, word,
+        ) {
             Ok(to) => to,
-            Err(found) => return (found, turns),
+            Err(found) => return (found, last.turns),
         };
-        let part = NodeWord::Child(side);
-        let child = read::<S, M>(hand, seat, Kind::LoadChild, node, start, part);
-        turns = with_turn(turns, counts, side, node);
-        trail = Trail {
-            grand: trail.parent,
-            grand_side: trail.side,
-            parent: node,
-            side,
-            node: NodeNo(child),
-        };
-        start = start_for(hand, goal, trail.node);
-        at = WalkAt::Head { above: head.level };
+        let turns = with_turn(last.turns, counts, side, trail.node);
+        let turned = Reached { turns, ..last };
+        place = descend::<S, M>(hand, seat, way, goal, turned, word, side);
     }
 }
 
