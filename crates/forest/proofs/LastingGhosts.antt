@@ -1,9 +1,9 @@
 -- Moves that no word shows: a load, by which a pass comes to know the run, and remembers more.
-use Rattle.std.proofs.Common.{◌≡◌, ◌≢◌, ◌<◌, ◌⊎◌, ℕ, Bool, false, List, [], ◌∷◌, slice_index, slice_set, inl, inr, refl, sym, ◌∙◌, ap, subst}
+use Rattle.std.proofs.Common.{◌≡◌, ◌≢◌, ℕ, false, List, [], ◌∷◌, slice_index, slice_set, inl, inr, refl, sym, ◌∙◌, ap, subst}
 use mathlib.Core.Option.{some}
 use lib.ListN.{get_elem?}
 use Rattle.atomic_table.specs.Table.{State}
-use Rattle.histories.specs.Common.{Layout, Row, History, Extends, IsRun}
+use Rattle.histories.specs.Common.{Layout, Row, History, IsRun}
 use Rattle.arena.proofs.Lemmas.{ends_self}
 use Rattle.planting.specs.Plantings.{PlantingView}
 use Rattle.resting.specs.Rests.{HaveMovedOn, HaveRestedAt}

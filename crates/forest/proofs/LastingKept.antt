@@ -1,10 +1,10 @@
 -- What passes remember stays so, and what is gone stays gone, however a table goes on.
-use Rattle.std.proofs.Common.{◌≡◌, ◌≢◌, ◌<◌, ◌⊎◌, ℕ, Bool, true, false, List, [], ◌∷◌, Option, Some, None, slice_index, slice_set, inl, inr, ⊎_elim, refl, sym, ◌∙◌, ap, subst}
+use Rattle.std.proofs.Common.{◌≡◌, ◌≢◌, ◌<◌, ℕ, true, false, List, [], ◌∷◌, Option, Some, None, slice_index, slice_set, inl, inr, ⊎_elim, sym, ◌∙◌, ap, subst}
 use mathlib.Core.Option.{some}
 use lib.ListN.{get_elem?}
 use Rattle.atomic_table.proofs.Lists.{at_set}
-use Rattle.histories.specs.Common.{Layout, Row, Word, History, ◌⊳◌, Extends, IsWord, IsTakenNode, IsTakenScx, Lawful, place, log, is_final}
-use Rattle.arena.proofs.Lemmas.{ends_self, ends_trans}
+use Rattle.histories.specs.Common.{Layout, Row, Word, History, ◌⊳◌, Extends, IsWord, Lawful, place, log, is_final}
+use Rattle.arena.proofs.Lemmas.{ends_trans}
 use Rattle.histories.proofs.Lemmas.{by_final, final_by, finalized_by_stays, lawful_tail, since}
 use Rattle.planting.specs.Plantings.{PlantingView}
 use Rattle.ordered_map.specs.Runs.{IsMapRun}
@@ -12,7 +12,7 @@ use Rattle.ordered_map.proofs.MapLemmas.{run_since}
 use Rattle.touching.proofs.Lemmas.{left_since, taken_scx_since}
 use Rattle.resting.specs.Dead.{IsUnborn}
 use Rattle.resting.specs.Records.{Record, record_of, the_node, the_scx}
-use Rattle.resting.specs.Rests.{HasRestedAt, HaveMovedOn, HaveRestedAt}
+use Rattle.resting.specs.Rests.{HasRestedAt, HaveMovedOn}
 use Rattle.resting.proofs.Lemmas.{out_anew, out_since, taken_node_since}
 use Rattle.slots.specs.Counts.{HasSeenRests}
 use Rattle.slots.specs.Held.{Held, IsHeld}

@@ -1,7 +1,7 @@
 -- A pass passes over names, nodes and SCX-records, in a table that lasts.
-use Rattle.std.proofs.Common.{◌≡◌, ◌≢◌, ◌+◌, ◌<◌, ◌≤◌, ◌⊎◌, ℕ, zero, suc, false, List, [], ◌∷◌, Some, None, slice_index, inl, inr, ⊎_elim, refl, sym, ◌∙◌, ap, subst, arith}
+use Rattle.std.proofs.Common.{◌≡◌, ◌≢◌, ◌+◌, ◌<◌, ◌≤◌, ◌⊎◌, ℕ, zero, suc, false, List, ◌∷◌, inl, inr, ⊎_elim, refl, sym, ◌∙◌, ap, subst, arith}
 use native.Mathlib.Decide.{dec_lt}
-use Rattle.histories.specs.Common.{Layout, Row, Kind, Fill, Freeze, Update, Abort, Settled, Head, State, Seen, Word, History, ◌⊳◌, Extends, node, scx, state, opening_nodes, IsOwnNode, IsOwnScx, IsTakenNode, IsTakenScx, IsUnmentioned, Lawful, IsRun}
+use Rattle.histories.specs.Common.{Layout, Row, Kind, Fill, Freeze, Update, Abort, Settled, Head, State, Seen, Word, History, ◌⊳◌, Extends, node, scx, state, IsOwnNode, IsOwnScx, IsTakenNode, IsTakenScx, IsUnmentioned, Lawful, IsRun}
 use Rattle.arena.specs.declared.word.ScxWord.TheVariants.{Plan}
 use Rattle.arena.specs.Shape.{Shaped}
 use Rattle.arena.proofs.Lemmas.{fill_takes_node, fill_takes_scx, taken_node_more, taken_scx_more}

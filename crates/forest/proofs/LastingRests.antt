@@ -1,10 +1,8 @@
 -- A rest, and to be away, keep the rule of a table that lasts.
-use Rattle.std.proofs.Common.{◌≡◌, ◌≢◌, ◌+◌, ◌*◌, ◌<◌, ◌⊎◌, ℕ, suc, Bool, true, false, true≢false, eq-eqb, ne_eqb, List, [], ◌∷◌, None, slice_index, slice_set, inl, inr, ⊎_elim, refl, sym, ◌∙◌, ap, subst, arith}
+use Rattle.std.proofs.Common.{◌≡◌, ◌≢◌, ◌+◌, ◌*◌, ◌<◌, ℕ, suc, true≢false, eq-eqb, ne_eqb, List, [], ◌∷◌, None, slice_index, slice_set, inl, inr, ⊎_elim, refl, sym, ◌∙◌, ap, subst, arith}
 use Rattle.std.proofs.lemmas.List.{get_or-set_other}
-use mathlib.Core.Option.{some}
-use lib.ListN.{get_elem?}
 use Rattle.atomic_table.specs.Table.{Me, Allows, keeps}
-use Rattle.histories.specs.Common.{Layout, Word, History, Extends, place, table_size, IsWord, IsTakenNode}
+use Rattle.histories.specs.Common.{Layout, Word, History, Extends, place, IsWord, IsTakenNode}
 use Rattle.arena.proofs.Lemmas.{ends_self}
 use Rattle.planting.specs.Plantings.{PlantingView}
 use Rattle.prims.specs.Moments.{AreFinished}
@@ -22,7 +20,7 @@ use Rattle.forest.specs.declared.lasting_view.LastingView.{LastingView}
 use Rattle.forest.specs.declared.lasting_view.Memory.{Memory}
 use Rattle.forest.specs.declared.view.SeatedPass.{SeatedPass}
 use Rattle.forest.proofs.LastingKept.{Later, StaysUnborn, gone_kept, names_kept, remember_kept, remembers_kept, spared, views_kept}
-use Rattle.forest.proofs.LastingSeats.{apart, aware, learnt, now, over, own, owns_aware, well}
+use Rattle.forest.proofs.LastingSeats.{apart, aware, learnt, now, over, owns_aware, well}
 
 -- the moments of the rests move on for a pass that rests now
 pub moves_now : (t : Lasting) (h : History) (last : ℕ → History) (o : ℕ) → HaveRestedAt t.lay h last → HaveMovedOn t.lay h last (with_rest last o h)

@@ -1,11 +1,9 @@
 -- To let a slot go, and to store 0 in one that holds nothing, keep the rule of a table that lasts.
-use Rattle.std.proofs.Common.{◌≡◌, ◌≢◌, ◌<◌, ◌⊎◌, ℕ, Bool, true, false, true≢false, eq-eqb, List, [], ◌∷◌, Option, Some, None, if◌then◌else◌, slice_index, slice_set, inl, inr, ⊎_elim, refl, sym, ◌∙◌, ap, subst, arith}
+use Rattle.std.proofs.Common.{◌≡◌, ◌≢◌, ◌⊎◌, ℕ, Bool, true, false, true≢false, eq-eqb, List, [], ◌∷◌, Some, None, if◌then◌else◌, slice_index, slice_set, inl, inr, refl, sym, ◌∙◌, ap, subst, arith}
 use Rattle.std.proofs.lemmas.List.{get_or-set_same, get_or-set_other}
-use mathlib.Core.Option.{some}
-use lib.ListN.{get_elem?}
 use native.Mathlib.Decide.{ℕ_discrete}
-use Rattle.atomic_table.specs.Table.{State, Me, Allows, keeps}
-use Rattle.histories.specs.Common.{Layout, Row, Word, History, Extends, place, IsWord, IsTakenNode}
+use Rattle.atomic_table.specs.Table.{Me, Allows, keeps}
+use Rattle.histories.specs.Common.{Layout, Word, History, Extends, place, IsWord}
 use Rattle.arena.proofs.Lemmas.{ends_self}
 use Rattle.histories.proofs.Lemmas.{one_node_owner, one_scx_owner}
 use Rattle.planting.specs.Plantings.{PlantingView}
@@ -14,7 +12,7 @@ use Rattle.resting.specs.Records.{Record, record_of, the_node, the_scx}
 use Rattle.resting.proofs.Lemmas.{taken_node_since}
 use Rattle.slots.specs.Counts.{CountsRests}
 use Rattle.slots.specs.Held.{Held, IsHeld, same_record, with_slot}
-use Rattle.slots.specs.Lasting.{IsFirstRecord, IsOwnName, IsOwnRecord, IsUntaken, Lasting, slot_of}
+use Rattle.slots.specs.Lasting.{IsFirstRecord, IsOwnRecord, IsUntaken, Lasting, slot_of}
 use Rattle.slots.specs.Window.{IsWindow}
 use Rattle.slots.proofs.Lemmas.{cleans, counts_stores, lets_go, place_inside, record_discrete, with_other, with_same}
 use Rattle.forest.specs.Passes.{Each}
@@ -27,7 +25,7 @@ use Rattle.forest.specs.declared.lasting_view.RecordNo.{RecordNo}
 use Rattle.forest.specs.declared.lasting_view.RecordNo.TheVariants.{Node, Scx}
 use Rattle.forest.specs.declared.rule.Plot.{Plot}
 use Rattle.forest.specs.declared.view.SeatedPass.{SeatedPass}
-use Rattle.forest.proofs.LastingKept.{Later, Spares, StaysUnborn, each_kept, note_kept, poll_kept, remember_kept, spared}
+use Rattle.forest.proofs.LastingKept.{Later, Spares, StaysUnborn, each_kept, note_kept, poll_kept}
 use Rattle.forest.proofs.LastingGhosts.{as_loaded, goes_on, in_each, later_moments, moments_stay}
 use Rattle.forest.proofs.LastingSeats.{aware, behind_known, learnt, now, own, well}
 

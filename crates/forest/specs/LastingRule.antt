@@ -1,6 +1,6 @@
 -- The rule of a table that lasts: what its words, and what all seats know and remember, have to do
 -- with one lawful run over ever new names.
-use Rattle.std.specs.Prelude.{◌≡◌, ◌≢◌, ◌<◌, ◌≤◌, ◌⊎◌, ◌++◌, ◌+◌, ◌*◌, ◌/◌, ◌%◌, ◌==◌, if◌then◌else◌, ℕ, zero, suc, Bool, true, false, List, [], ◌∷◌, Option, Some, None, length, slice_index}
+use Rattle.std.specs.Prelude.{◌≡◌, ◌≢◌, ◌<◌, ◌≤◌, ◌⊎◌, ◌++◌, ◌+◌, ◌*◌, ◌/◌, ◌%◌, ◌==◌, if◌then◌else◌, ℕ, zero, suc, true, false, List, [], ◌∷◌, Option, Some, None, length, slice_index}
 use mathlib.Core.Option.{some}
 use lib.ListN.{get_elem?}
 use Rattle.atomic_table.specs.Table.{State}
@@ -14,7 +14,6 @@ use Rattle.touching.specs.Left.{HasLeft}
 use Rattle.resting.specs.Dead.{IsDead, IsMarkedRecord, IsUnborn}
 use Rattle.resting.specs.Periods.{IsRightNote, dead_by, out_of_reach}
 use Rattle.resting.specs.Records.{Record, record_of, the_node, the_scx}
-use Rattle.resting.specs.Rests.{HaveMovedOn, HaveRestedAt}
 use Rattle.slots.specs.Counts.{CountsRests, HasSeenRests, Tally, rests_place}
 use Rattle.slots.specs.Held.{Held, IsHeld, same_record}
 use Rattle.slots.specs.Lasting.{IsLasting, IsOwnName, IsOwnRecord, IsUntaken, Lasting, slot_of}
