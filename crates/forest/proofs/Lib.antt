@@ -55,3 +55,5 @@ mod LastingSlots
 mod LastingNames
 mod LastingTakes
 mod LastingOpens
+mod LastingDeals
+mod LastingSees

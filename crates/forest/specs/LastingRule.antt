@@ -11,7 +11,7 @@ use Rattle.prims.specs.Moments.{AreFinished}
 use Rattle.prims.specs.Shares.{IsShare}
 use Rattle.ordered_map.specs.Runs.{IsMapRun}
 use Rattle.touching.specs.Left.{HasLeft}
-use Rattle.resting.specs.Dead.{IsDead, IsMarkedRecord, IsUnborn}
+use Rattle.resting.specs.Dead.{IsDead, IsMarkedRecord, IsUnborn, IsUnnamedScx}
 use Rattle.resting.specs.Periods.{IsRightNote, dead_by, out_of_reach}
 use Rattle.resting.specs.Records.{Record, record_of, the_node, the_scx}
 use Rattle.slots.specs.Counts.{CountsRests, HasSeenRests, Tally, rests_place}
@@ -21,7 +21,7 @@ use Rattle.slots.specs.Passing.{row_over}
 use Rattle.slots.specs.Window.{IsWindow}
 use Rattle.forest.specs.CallSteps.{IsOfMapCall}
 use Rattle.forest.specs.Passes.{Each}
-use Rattle.forest.specs.TableRule.{ByOthers, MayStep, Owns, history_of, new_passes, past_of, seated_pass}
+use Rattle.forest.specs.TableRule.{ByOthers, MayStep, Owns, first_of, history_of, new_passes, past_of, rest_of, seated_pass}
 use Rattle.forest.specs.declared.lasting_view.LastingView.{LastingView}
 use Rattle.forest.specs.declared.lasting_view.Memory.{Memory}
 use Rattle.forest.specs.declared.lasting_view.Noted.{Noted}
@@ -133,8 +133,9 @@ pub record RemembersWell (t : Lasting) (planting : PlantingView) (now : Present)
 
 -- so it is with each of these passes, by what it remembers, in the same order
 abbrev pub RememberWell : Lasting → PlantingView → Present → List SeatedPass → List Memory → Type 0
-RememberWell t planting now [] ms = Unit {0}
-RememberWell t planting now (p ∷ ps) [] = Unit {0}
+RememberWell t planting now [] [] = Unit {0}
+RememberWell t planting now [] (m ∷ ms) = ⊥
+RememberWell t planting now (p ∷ ps) [] = ⊥
 RememberWell t planting now (p ∷ ps) (m ∷ ms) = RemembersWell t planting now p.number.0 m × RememberWell t planting now ps ms
 
 -- The rule
@@ -337,6 +338,47 @@ pub record GoesOnWith (allows : Layout → History → ℕ → Type 0) (on : Pla
   pub run : IsRun allows pass.layout (history_of pass.planting (on pass.planting (others ++ pass.known)))
   pub passes : w.passes ≡ seated_pass pass.number.0 pass.layout pass.planting (on pass.planting (others ++ pass.known)) ∷ []
   pub memories : w.memories ≡ after (on pass.planting (others ++ pass.known)) ∷ []
+
+-- Dealing and joining
+
+-- what is remembered by the passes after the first
+abbrev pub rest_of_memories : List Memory → List Memory
+rest_of_memories [] = []
+rest_of_memories (m ∷ ms) = ms
+
+-- and by the first, if there is one
+abbrev pub first_memory_of : List Memory → List Memory
+first_memory_of [] = []
+first_memory_of (m ∷ ms) = m ∷ []
+
+-- what a seat knows without its first pass, and with it alone; with no pass; and with those of two
+abbrev pub rest_of_view : LastingView → LastingView
+rest_of_view v = record { passes = rest_of v.passes; memories = rest_of_memories v.memories }
+
+abbrev pub first_of_view : LastingView → LastingView
+first_of_view v = record { passes = first_of v.passes; memories = first_memory_of v.memories }
+
+abbrev pub no_view : LastingView
+no_view = record { passes = []; memories = [] }
+
+abbrev pub joined_view : LastingView → LastingView → LastingView
+joined_view v w = record { passes = v.passes ++ w.passes; memories = v.memories ++ w.memories }
+
+-- What is seen of names
+
+-- what is remembered of a look at the mark of a name that is held, which was n, after these rows
+abbrev pub memory_marked : Memory → RecordNo → (n : ℕ) → List Row → Memory
+memory_marked m name n rows = if n == 0 then m else record m { notes = noted_as name (MarkedOrDead rows) ∷ m.notes }
+
+-- The name is the pass's own, taken as it rested, and by then was no node that was ever put in, and
+-- no SCX-record that an info had named, which was finished.
+abbrev pub IsUnused : Layout → ℕ → Record → History → Type 0
+IsUnused lay o (the_node n) rest = IsUnborn lay o rest n
+IsUnused lay o (the_scx s) rest = IsUnnamedScx lay o rest s
+
+-- what is remembered of such a name: it is out of reach
+abbrev pub memory_unused : Memory → RecordNo → Memory
+memory_unused m name = record m { notes = noted_as name OutOfReach ∷ m.notes }
 
 -- The opening
 

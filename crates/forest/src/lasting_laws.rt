@@ -1,9 +1,12 @@
 //! What keeps the rule of a table that lasts: what its seats may do, and what they learn.
-ghost use Rattle.std.specs.Prelude.{◌≡◌, ◌≢◌, ◌+◌, ◌*◌, ◌<◌, ◌≤◌, ℕ, suc, List, [], ◌∷◌, Some, slice_index};
-ghost use Rattle.atomic_table.specs.Table.{Allows, Me, opening};
+ghost use Rattle.std.specs.Prelude.{◌≡◌, ◌≢◌, false, ◌+◌, ◌*◌, ◌<◌, ◌≤◌, ℕ, suc, List, [], ◌∷◌, Some, slice_index};
+ghost use Rattle.atomic_table.specs.Table.{Allows, Joins, Me, Splits, opening};
 ghost use Rattle.arena.specs.declared.layout.Layout.{Layout};
 ghost use Rattle.arena.specs.declared.step.Row.{Row};
+ghost use Rattle.arena.specs.declared.number.NodeNo.{NodeNo};
+ghost use Rattle.arena.specs.declared.word.NodeWord.{NodeWord};
 ghost use Rattle.arena.specs.declared.word.Word.{Word};
+ghost use Rattle.arena.specs.Fills.{IsTakenNode};
 ghost use Rattle.arena.specs.History.{History};
 ghost use Rattle.arena.specs.Layout.{IsWord, place};
 ghost use Rattle.arena.specs.Machines.{IsRun, IsTold};
@@ -15,7 +18,7 @@ ghost use Rattle.prims.specs.Moments.{AreFinished};
 ghost use Rattle.resting.specs.Records.{record_of};
 ghost use Rattle.slots.specs.Counts.{rests_place};
 ghost use Rattle.slots.specs.Lasting.{Lasting, table_place};
-ghost use Rattle.forest.specs.LastingRule.{GoesOnWith, HasRestedSince, IsBefore, IsIn, LearnsWith, MayStepOn, MayTake, OpensLasting, TableLasts, WasTaken, first_view, memory_away, memory_cleared, memory_let_go, memory_looked, memory_noted, memory_polled, memory_rested, memory_with_node, memory_with_scx, node_ahead, noted_as, past_nodes, past_scxs, record_at, scx_ahead};
+ghost use Rattle.forest.specs.LastingRule.{GoesOnWith, HasRestedSince, IsBefore, IsIn, LearnsWith, MayStepOn, MayTake, OpensLasting, TableLasts, WasTaken, IsUnused, first_of_view, first_view, joined_view, memory_away, memory_cleared, memory_let_go, memory_looked, memory_marked, memory_noted, memory_polled, memory_rested, memory_unused, memory_with_node, memory_with_scx, no_view, node_ahead, noted_as, past_nodes, past_scxs, record_at, rest_of_view, scx_ahead};
 ghost use Rattle.forest.specs.Passes.{Each};
 ghost use Rattle.forest.specs.TableRule.{Made, history_of, past_of};
 ghost use Rattle.forest.specs.declared.lasting_view.LastingView.{LastingView};
@@ -144,6 +147,38 @@ pub fn names_last<S: Shape>()
         → Allows (TableLasts S.allows t planting) slots id me at (λ n. n)
         (λ n w. GoesOnWith S.allows (past_scxs p.number.0 m.scx_to count)
         (memory_with_scx m count slot) me.0 w.0 × (w.1 ≡ me.1)) }
+{
+    unborn_stays_out();
+}
+
+/// The first pass of a seat goes to a seat of its own, and a seat takes in the passes of another. It
+/// does nothing; a caller learns this from its contract.
+pub fn seats_last<S: Shape>()
+    ensures deals { (t : Lasting) (planting : PlantingView) (id : ℕ) (v : LastingView)
+        → Splits (TableLasts S.allows t planting) id v (rest_of_view v) (first_of_view v) }
+    ensures joins { (t : Lasting) (planting : PlantingView) (id other : ℕ) (v w : LastingView)
+        → Joins (TableLasts S.allows t planting) id v other w (joined_view v w) no_view }
+{}
+
+/// A pass sees that a name that a slot of its own holds is marked; and notes that a name is out of
+/// reach that was of no use to it as it rested. It does nothing; a caller learns this from its
+/// contract.
+pub fn sights_last<S: Shape>()
+    ensures marks { (t : Lasting) (planting : PlantingView) (slots id : ℕ) (me : Me ℕ LastingView)
+        (p : SeatedPass) (m : Memory) (node : NodeNo) → me.0.passes ≡ p ∷ []
+        → me.0.memories ≡ m ∷ [] → p.number.0 < t.lay.passes
+        → IsIn (RecordNo.Node node) m.holds → IsTakenNode (past_of p []) node.0
+        → Allows (TableLasts S.allows t planting) slots id me
+        (table_place t (Word.Node node NodeWord.Marked)) (λ n. n)
+        (λ n w. LearnsWith S.allows (memory_marked m (RecordNo.Node node) n) me.0 w.0
+        × (w.1 ≡ me.1)) }
+    ensures unused { (t : Lasting) (planting : PlantingView) (slots id : ℕ)
+        (me : Me ℕ LastingView) (p : SeatedPass) (m : Memory) (at : ℕ) (name : RecordNo)
+        → me.0.passes ≡ p ∷ [] → me.0.memories ≡ m ∷ [] → p.number.0 < t.lay.passes
+        → m.away ≡ false
+        → IsUnused p.layout p.number.0 (record_at name) (history_of p.planting m.rested)
+        → Allows (TableLasts S.allows t planting) slots id me at (λ n. n)
+        (λ n w. LearnsWith S.allows (λ rows. memory_unused m name) me.0 w.0 × (w.1 ≡ me.1)) }
 {
     unborn_stays_out();
 }
