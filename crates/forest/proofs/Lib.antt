@@ -57,3 +57,4 @@ mod LastingTakes
 mod LastingOpens
 mod LastingDeals
 mod LastingSees
+mod LastingTrees

@@ -4,7 +4,7 @@ use Rattle.std.specs.Prelude.{◌≡◌, ◌≢◌, ◌<◌, ◌≤◌, ◌⊎�
 use mathlib.Core.Option.{some}
 use lib.ListN.{get_elem?}
 use Rattle.atomic_table.specs.Table.{State}
-use Rattle.histories.specs.Common.{Layout, Fill, Abort, Settled, Head, Seen, node, scx, state, Row, Word, History, ◌⊳◌, Extends, value, IsRun, IsWord, IsTakenNode, IsTakenScx, Remaining, first_node, first_scx, table_size, place, log, is_final}
+use Rattle.histories.specs.Common.{Layout, Fill, Abort, Settled, Head, Seen, node, scx, state, Row, Word, History, ◌⊳◌, Extends, value, IsRun, IsWord, IsTakenNode, IsTakenScx, Remaining, HasNode, HasScx, first_node, first_scx, table_size, place, log, is_final}
 use Rattle.arena.specs.declared.word.ScxWord.TheVariants.{Plan}
 use Rattle.planting.specs.Plantings.{PlantingView}
 use Rattle.prims.specs.Moments.{AreFinished}
@@ -254,9 +254,28 @@ abbrev pub without : Record → List RecordNo → List RecordNo
 without x [] = []
 without x (n ∷ ns) = if same_record (record_at n) x then without x ns else n ∷ without x ns
 
--- what is remembered once the slot of the name holds nothing
+-- What is remembered once the slot of the name holds nothing, and names up to these two are dealt;
+-- and if as many are dealt as before.
+abbrev pub memory_without : Lasting → Memory → RecordNo → (nodes_to scx_to : ℕ) → Memory
+memory_without t m name nodes_to scx_to = record m { nodes_to = nodes_to; scx_to = scx_to; holds = without (record_at name) m.holds; empty = slot_number t name ∷ m.empty }
+
 abbrev pub memory_let_go : Lasting → Memory → RecordNo → Memory
-memory_let_go t m name = record m { holds = without (record_at name) m.holds; empty = slot_number t name ∷ m.empty }
+memory_let_go t m name = memory_without t m name m.nodes_to m.scx_to
+
+-- so it is once a name is given back that nobody has taken, and all behind it
+abbrev pub memory_given_back : Lasting → Memory → RecordNo → Memory
+memory_given_back t m (Node n) = memory_without t m (Node n) n.0 m.scx_to
+memory_given_back t m (Scx s) = memory_without t m (Scx s) m.nodes_to s.0
+
+-- the name is the last that is dealt
+abbrev pub IsLastDealt : Memory → Record → Type 0
+IsLastDealt m (the_node n) = m.nodes_to ≡ suc n
+IsLastDealt m (the_scx s) = m.scx_to ≡ suc s
+
+-- the name is left of a share
+abbrev pub IsLeft : Remaining → Record → Type 0
+IsLeft left (the_node n) = HasNode left n
+IsLeft left (the_scx s) = HasScx left s
 
 -- what is remembered once this word is 0
 abbrev pub memory_cleared : Memory → Word → Memory

@@ -1,13 +1,14 @@
 //! What keeps the rule of a table that lasts: what its seats may do, and what they learn.
 ghost use Rattle.std.specs.Prelude.{◌≡◌, ◌≢◌, false, ◌+◌, ◌*◌, ◌<◌, ◌≤◌, ℕ, suc, List, [], ◌∷◌, Some, slice_index};
-ghost use Rattle.atomic_table.specs.Table.{Allows, Joins, Me, Splits, opening};
+ghost use Rattle.atomic_table.specs.Table.{Allows, Joins, Me, Splits, State, opening};
 ghost use Rattle.arena.specs.declared.layout.Layout.{Layout};
 ghost use Rattle.arena.specs.declared.step.Row.{Row};
 ghost use Rattle.arena.specs.declared.number.NodeNo.{NodeNo};
 ghost use Rattle.arena.specs.declared.word.NodeWord.{NodeWord};
 ghost use Rattle.arena.specs.declared.word.Word.{Word};
 ghost use Rattle.arena.specs.Fills.{IsTakenNode};
-ghost use Rattle.arena.specs.History.{History};
+ghost use Rattle.arena.specs.History.{History, value};
+ghost use Rattle.arena.specs.Words.{node};
 ghost use Rattle.arena.specs.Layout.{IsWord, place};
 ghost use Rattle.arena.specs.Machines.{IsRun, IsTold};
 ghost use Rattle.arena.specs.Share.{Remaining};
@@ -15,10 +16,13 @@ ghost use Rattle.histories.specs.Common.{word_after};
 ghost use Rattle.ordered_map.specs.Runs.{IsMapRun};
 ghost use Rattle.planting.specs.Plantings.{PlantingView};
 ghost use Rattle.prims.specs.Moments.{AreFinished};
-ghost use Rattle.resting.specs.Records.{record_of};
+ghost use Rattle.prims.specs.Shares.{IsShare};
+ghost use Rattle.touching.specs.Kinds.{IsInTree};
+ghost use Rattle.resting.specs.Records.{record_of, the_node};
 ghost use Rattle.slots.specs.Counts.{rests_place};
+ghost use Rattle.slots.specs.Held.{IsHeld};
 ghost use Rattle.slots.specs.Lasting.{Lasting, table_place};
-ghost use Rattle.forest.specs.LastingRule.{GoesOnWith, HasRestedSince, IsBefore, IsIn, LearnsWith, MayStepOn, MayTake, OpensLasting, TableLasts, WasTaken, IsUnused, first_of_view, first_view, joined_view, memory_away, memory_cleared, memory_let_go, memory_looked, memory_marked, memory_noted, memory_polled, memory_rested, memory_unused, memory_with_node, memory_with_scx, no_view, node_ahead, noted_as, past_nodes, past_scxs, record_at, rest_of_view, scx_ahead};
+ghost use Rattle.forest.specs.LastingRule.{GoesOnWith, HasRestedSince, IsBefore, IsIn, LearnsWith, MayStepOn, MayTake, OpensLasting, TableLasts, WasTaken, IsLastDealt, IsLeft, IsUnused, first_of_view, first_view, joined_view, memory_away, memory_cleared, memory_given_back, memory_let_go, memory_looked, memory_marked, memory_noted, memory_polled, memory_rested, memory_unused, memory_with_node, memory_with_scx, no_view, node_ahead, noted_as, past_nodes, past_scxs, record_at, rest_of_view, scx_ahead};
 ghost use Rattle.forest.specs.Passes.{Each};
 ghost use Rattle.forest.specs.TableRule.{Made, history_of, past_of};
 ghost use Rattle.forest.specs.declared.lasting_view.LastingView.{LastingView};
@@ -104,8 +108,9 @@ pub fn looks_last<S: Shape>()
     notes_hold();
 }
 
-/// A slot whose record is out of reach holds nothing from now on, and its words are stored 0. It
-/// does nothing; a caller learns this from its contract.
+/// A slot whose record is out of reach holds nothing from now on, nor does that of the last name that
+/// is dealt, if it is given back; and the words of such a slot are stored 0. It does nothing; a caller
+/// learns this from its contract.
 pub fn slots_last<S: Shape>()
     ensures lets_go { (t : Lasting)
         (planting : PlantingView) (slots id : ℕ) (me : Me ℕ LastingView) (p : SeatedPass)
@@ -115,6 +120,15 @@ pub fn slots_last<S: Shape>()
         → WasTaken (past_of p []) (record_at name)
         → Allows (TableLasts S.allows t planting) slots id me at (λ n. n)
         (λ n w. LearnsWith S.allows (λ rows. memory_let_go t m name) me.0 w.0 × (w.1 ≡ me.1)) }
+    ensures gives_back { (t : Lasting) (planting : PlantingView) (slots id : ℕ)
+        (me : Me ℕ LastingView) (p : SeatedPass) (m : Memory) (at : ℕ) (name : RecordNo)
+        (left : Remaining) → me.0.passes ≡ p ∷ [] → me.0.memories ≡ m ∷ []
+        → p.number.0 < t.lay.passes → IsIn name m.holds → IsLastDealt m (record_at name)
+        → IsShare p.layout (past_of p []) p.number.0 left left.next_node left.next_scx
+        → IsLeft left (record_at name)
+        → Allows (TableLasts S.allows t planting) slots id me at (λ n. n)
+        (λ n w. LearnsWith S.allows (λ rows. memory_given_back t m name) me.0 w.0
+        × (w.1 ≡ me.1)) }
     ensures zeros { (t : Lasting) (planting : PlantingView)
         (slots id : ℕ) (me : Me ℕ LastingView) (p : SeatedPass) (m : Memory) (word : Word)
         (slot : RecordNo) → me.0.passes ≡ p ∷ [] → me.0.memories ≡ m ∷ []
@@ -179,6 +193,21 @@ pub fn sights_last<S: Shape>()
         → IsUnused p.layout p.number.0 (record_at name) (history_of p.planting m.rested)
         → Allows (TableLasts S.allows t planting) slots id me at (λ n. n)
         (λ n w. LearnsWith S.allows (λ rows. memory_unused m name) me.0 w.0 × (w.1 ≡ me.1)) }
+{
+    unborn_stays_out();
+}
+
+/// Each node of the tree is held, and its words are those of the run, whatever has come back. It does
+/// nothing; a caller learns this from its contract.
+pub fn trees_last<S: Shape>()
+    ensures held { (t : Lasting) (planting : PlantingView) (s : State ℕ LastingView)
+        (x : TableLasts S.allows t planting s) (n : ℕ)
+        → IsInTree (history_of planting x.rows) n → IsHeld t x.held (the_node n) }
+    ensures words { (t : Lasting) (planting : PlantingView) (s : State ℕ LastingView)
+        (x : TableLasts S.allows t planting s) (n : ℕ) (part : NodeWord)
+        → IsInTree (history_of planting x.rows) n → IsWord t.lay (node n part)
+        → slice_index s.words (table_place t (node n part))
+        ≡ value (history_of planting x.rows) (node n part) }
 {
     unborn_stays_out();
 }
