@@ -23,7 +23,7 @@ use Rattle.forest.specs.LastingRule.{HasPolledSo, IsEmptySlot, IsGone, IsGoneRec
 use Rattle.forest.specs.declared.lasting_view.LastingView.{LastingView}
 use Rattle.forest.specs.declared.lasting_view.Memory.{Memory}
 use Rattle.forest.specs.declared.lasting_view.NoteView.{NoteView}
-use Rattle.forest.specs.declared.lasting_view.NoteView.TheVariants.{MarkedOrDead, DeadBy, OutOfReach}
+use Rattle.forest.specs.declared.lasting_view.NoteView.TheVariants.{MarkedOrDead, DeadBy, OutOfReach, DoneWith}
 use Rattle.forest.specs.declared.lasting_view.Polled.{Polled}
 use Rattle.forest.specs.declared.lasting_view.RecordNo.{RecordNo}
 use Rattle.forest.specs.declared.view.SeatedPass.{SeatedPass}
@@ -64,6 +64,8 @@ module _ (t : Lasting) (planting : PlantingView) (a b : Present) (x : Later t a 
   note_kept o r (MarkedOrDead rows) y = (ends_trans b.run a.run (history_of planting rows) x.within y.0, ⊎_elim inl (λ z. inr (z.0, gone_record_kept r z.1)) y.1)
   note_kept o r (DeadBy rows) y = ((ends_trans b.run a.run (history_of planting rows) x.within y.0.0, y.0.1), gone_record_kept r y.1)
   note_kept o r OutOfReach y = (out_anew t.lay b.run a.last b.last r x.moved (out_since t.lay a.run b.run a.last r x.within y.0), gone_record_kept r y.1)
+  note_kept o (the_node n) (DoneWith j) y = y
+  note_kept o (the_scx s) (DoneWith j) y = (y.0, ends_trans b.run a.run y.0 x.within y.1, y.2, y.3)
 
   polled_kept : (p : ℕ) (m : History) (w : Option ℕ) → p < t.lay.passes → HasPolledSo a p m w → HasPolledSo b p m w
   polled_kept p m (Some n) i z = x.seen p m n i z

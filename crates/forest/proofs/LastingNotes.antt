@@ -18,7 +18,7 @@ use Rattle.forest.specs.declared.lasting_view.LastingView.{LastingView}
 use Rattle.forest.specs.declared.lasting_view.Memory.{Memory}
 use Rattle.forest.specs.declared.lasting_view.Noted.{Noted}
 use Rattle.forest.specs.declared.lasting_view.NoteView.{NoteView}
-use Rattle.forest.specs.declared.lasting_view.NoteView.TheVariants.{MarkedOrDead, DeadBy, OutOfReach}
+use Rattle.forest.specs.declared.lasting_view.NoteView.TheVariants.{MarkedOrDead, DeadBy, OutOfReach, DoneWith}
 use Rattle.forest.specs.declared.rule.Plot.{Plot}
 use Rattle.forest.specs.declared.view.SeatedPass.{SeatedPass}
 use Rattle.forest.proofs.LastingKept.{StaysUnborn}
@@ -57,6 +57,7 @@ module _ (lay : Layout) (planting : PlantingView) (known : Periods lay) (o : ℕ
         go (inr d) = (dead (inr d.0), d.1)
     note_goes_on x (DeadBy old) after y = (known.second o x a.run a.last (history_of planting old) snapshot run is_pass rested since after y.0, y.1)
     note_goes_on x OutOfReach after y = y
+    note_goes_on x (DoneWith j) after y = y
 
     pub notes_go_on : (notes chosen : List Noted) → Each (λ n. IsNoteSo lay planting o a (record_at n.name) n.note) notes → Each (λ n. IsIn n notes × IsBefore planting snapshot n.note) chosen → Each (λ n. IsNoteSo lay planting o a (record_at n.name) n.note) (further_all rows chosen notes)
     notes_go_on notes [] so chosen = so

@@ -40,7 +40,7 @@ fill_discrete n r = go (kind_discrete r.kind) r.word refl
     go (yes kind) (Node m part) e = at m.0 part kind e (ℕ_discrete m.0 n)
     go (yes kind) (Scx s part) e = no (λ f. let q : Scx s part ≡ node n f.0 = sym e ∙ f.2 in cc)
 
-taken_discrete : (h : History) (n : ℕ) → Dec (IsTakenNode h n)
+pub taken_discrete : (h : History) (n : ℕ) → Dec (IsTakenNode h n)
 unfolding IsTakenNode
 taken_discrete (Opened o) n = no (λ z. z)
 taken_discrete (r ⊳ h) n = go (fill_discrete n r) (taken_discrete h n)

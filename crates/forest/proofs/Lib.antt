@@ -58,3 +58,4 @@ mod LastingOpens
 mod LastingDeals
 mod LastingSees
 mod LastingTrees
+mod LastingFinished

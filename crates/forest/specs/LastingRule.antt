@@ -4,14 +4,14 @@ use Rattle.std.specs.Prelude.{◌≡◌, ◌≢◌, ◌<◌, ◌≤◌, ◌⊎�
 use mathlib.Core.Option.{some}
 use lib.ListN.{get_elem?}
 use Rattle.atomic_table.specs.Table.{State}
-use Rattle.histories.specs.Common.{Layout, Fill, Abort, Settled, Head, Seen, node, scx, state, Row, Word, History, ◌⊳◌, Extends, value, IsRun, IsWord, IsTakenNode, IsTakenScx, Remaining, HasNode, HasScx, first_node, first_scx, table_size, place, log, is_final}
+use Rattle.histories.specs.Common.{Layout, Fill, Abort, Settled, Head, Seen, node, scx, state, Row, Word, History, ◌⊳◌, Extends, value, IsRun, IsWord, IsTakenNode, IsTakenScx, Remaining, ScxNo, HasNode, HasScx, first_node, first_scx, table_size, place, log, is_final}
 use Rattle.arena.specs.declared.word.ScxWord.TheVariants.{Plan}
 use Rattle.planting.specs.Plantings.{PlantingView}
 use Rattle.prims.specs.Moments.{AreFinished}
 use Rattle.prims.specs.Shares.{IsShare}
 use Rattle.ordered_map.specs.Runs.{IsMapRun}
 use Rattle.touching.specs.Left.{HasLeft}
-use Rattle.resting.specs.Dead.{IsDead, IsMarkedRecord, IsUnborn, IsUnnamedScx}
+use Rattle.resting.specs.Dead.{IsDead, IsMarkedRecord, IsUnborn, IsUnnamedScx, WasDoneWith}
 use Rattle.resting.specs.Periods.{IsRightNote, dead_by, out_of_reach}
 use Rattle.resting.specs.Records.{Record, record_of, the_node, the_scx}
 use Rattle.slots.specs.Counts.{CountsRests, HasSeenRests, Tally, rests_place}
@@ -26,7 +26,7 @@ use Rattle.forest.specs.declared.lasting_view.LastingView.{LastingView}
 use Rattle.forest.specs.declared.lasting_view.Memory.{Memory}
 use Rattle.forest.specs.declared.lasting_view.Noted.{Noted}
 use Rattle.forest.specs.declared.lasting_view.NoteView.{NoteView}
-use Rattle.forest.specs.declared.lasting_view.NoteView.TheVariants.{MarkedOrDead, DeadBy, OutOfReach}
+use Rattle.forest.specs.declared.lasting_view.NoteView.TheVariants.{MarkedOrDead, DeadBy, OutOfReach, DoneWith}
 use Rattle.forest.specs.declared.lasting_view.Polled.{Polled}
 use Rattle.forest.specs.declared.lasting_view.RecordNo.{RecordNo}
 use Rattle.forest.specs.declared.lasting_view.RecordNo.TheVariants.{Node, Scx}
@@ -77,11 +77,17 @@ AreHeldOrGone t now = (n : ℕ) → IsTakenNode now.run n → IsHeld t now.held 
 
 -- What a pass remembers
 
+-- at a moment when it was finished the SCX-record was done with that node
+abbrev pub IsDoneWith : Layout → History → Record → ℕ → Type 0
+IsDoneWith lay h (the_node n) j = Unit {0}
+IsDoneWith lay h (the_scx s) j = WasDoneWith lay h s j
+
 -- The pass's note of a record is right; and if it is dead, or out of reach, it is gone.
 abbrev pub IsNoteSo : Layout → PlantingView → ℕ → Present → Record → NoteView → Type 0
 IsNoteSo lay planting o now x (MarkedOrDead rows) = Extends now.run (history_of planting rows) × (IsMarkedRecord x (history_of planting rows) ⊎ (IsDead lay o x (history_of planting rows) × IsGoneRecord lay now.run now.last x))
 IsNoteSo lay planting o now x (DeadBy rows) = IsRightNote lay o x now.run now.last (dead_by (history_of planting rows)) × IsGoneRecord lay now.run now.last x
 IsNoteSo lay planting o now x OutOfReach = IsRightNote lay o x now.run now.last out_of_reach × IsGoneRecord lay now.run now.last x
+IsNoteSo lay planting o now x (DoneWith j) = IsDoneWith lay now.run x j
 
 -- by then the pass p had rested so often; or it has rested since
 abbrev pub HasPolledSo : Present → ℕ → History → Option ℕ → Type 0
@@ -227,6 +233,7 @@ abbrev pub IsBefore : PlantingView → History → NoteView → Type 0
 IsBefore planting moment (MarkedOrDead rows) = Extends moment (history_of planting rows)
 IsBefore planting moment (DeadBy rows) = Extends moment (history_of planting rows)
 IsBefore planting moment OutOfReach = Unit {0}
+IsBefore planting moment (DoneWith j) = Unit {0}
 
 -- how a note goes on when all have rested: what was marked or dead is dead by now, and what was dead
 -- is out of reach
@@ -234,6 +241,7 @@ abbrev pub further : List Row → NoteView → NoteView
 further rows (MarkedOrDead old) = DeadBy rows
 further rows (DeadBy old) = OutOfReach
 further rows OutOfReach = OutOfReach
+further rows (DoneWith j) = DoneWith j
 
 -- these notes, and behind them the others
 abbrev pub further_all : List Row → List Noted → List Noted → List Noted
@@ -398,6 +406,18 @@ IsUnused lay o (the_scx s) rest = IsUnnamedScx lay o rest s
 -- what is remembered of such a name: it is out of reach
 abbrev pub memory_unused : Memory → RecordNo → Memory
 memory_unused m name = record m { notes = noted_as name OutOfReach ∷ m.notes }
+
+-- what is remembered of an SCX-record that was done with its node of this place, as a look at the
+-- node's info told, which was n, or as the pass knew
+abbrev pub memory_done : Memory → ScxNo → (j : ℕ) → Memory
+memory_done m s j = record m { notes = noted_as (Scx s) (DoneWith j) ∷ m.notes }
+
+abbrev pub memory_looked_at : Memory → ScxNo → (j n : ℕ) → Memory
+memory_looked_at m s j n = if n == s.0 then m else memory_done m s j
+
+-- and of one that is dead after these rows
+abbrev pub memory_over : Memory → ScxNo → List Row → Memory
+memory_over m s rows = record m { notes = noted_as (Scx s) (MarkedOrDead rows) ∷ m.notes }
 
 -- The opening
 

@@ -4,11 +4,13 @@ ghost use Rattle.atomic_table.specs.Table.{Allows, Joins, Me, Splits, State, ope
 ghost use Rattle.arena.specs.declared.layout.Layout.{Layout};
 ghost use Rattle.arena.specs.declared.step.Row.{Row};
 ghost use Rattle.arena.specs.declared.number.NodeNo.{NodeNo};
+ghost use Rattle.arena.specs.declared.number.ScxNo.{ScxNo};
 ghost use Rattle.arena.specs.declared.word.NodeWord.{NodeWord};
 ghost use Rattle.arena.specs.declared.word.Word.{Word};
-ghost use Rattle.arena.specs.Fills.{IsTakenNode};
+ghost use Rattle.arena.specs.Fills.{IsTakenNode, IsTakenScx};
+ghost use Rattle.arena.specs.ScxRecords.{count, member};
 ghost use Rattle.arena.specs.History.{History, value};
-ghost use Rattle.arena.specs.Words.{node};
+ghost use Rattle.arena.specs.Words.{info, node};
 ghost use Rattle.arena.specs.Layout.{IsWord, place};
 ghost use Rattle.arena.specs.Machines.{IsRun, IsTold};
 ghost use Rattle.arena.specs.Share.{Remaining};
@@ -18,11 +20,12 @@ ghost use Rattle.planting.specs.Plantings.{PlantingView};
 ghost use Rattle.prims.specs.Moments.{AreFinished};
 ghost use Rattle.prims.specs.Shares.{IsShare};
 ghost use Rattle.touching.specs.Kinds.{IsInTree};
+ghost use Rattle.resting.specs.Dead.{WasDoneWith};
 ghost use Rattle.resting.specs.Records.{record_of, the_node};
 ghost use Rattle.slots.specs.Counts.{rests_place};
 ghost use Rattle.slots.specs.Held.{IsHeld};
 ghost use Rattle.slots.specs.Lasting.{Lasting, table_place};
-ghost use Rattle.forest.specs.LastingRule.{GoesOnWith, HasRestedSince, IsBefore, IsIn, LearnsWith, MayStepOn, MayTake, OpensLasting, TableLasts, WasTaken, IsLastDealt, IsLeft, IsUnused, first_of_view, first_view, joined_view, memory_away, memory_cleared, memory_given_back, memory_let_go, memory_looked, memory_marked, memory_noted, memory_polled, memory_rested, memory_unused, memory_with_node, memory_with_scx, no_view, node_ahead, noted_as, past_nodes, past_scxs, record_at, rest_of_view, scx_ahead};
+ghost use Rattle.forest.specs.LastingRule.{GoesOnWith, HasRestedSince, IsBefore, IsIn, LearnsWith, MayStepOn, MayTake, OpensLasting, TableLasts, WasTaken, IsLastDealt, IsLeft, IsUnused, first_of_view, first_view, joined_view, memory_away, memory_cleared, memory_done, memory_given_back, memory_let_go, memory_looked, memory_looked_at, memory_marked, memory_noted, memory_over, memory_polled, memory_rested, memory_unused, memory_with_node, memory_with_scx, no_view, node_ahead, noted_as, past_nodes, past_scxs, record_at, rest_of_view, scx_ahead};
 ghost use Rattle.forest.specs.Passes.{Each};
 ghost use Rattle.forest.specs.TableRule.{Made, history_of, past_of};
 ghost use Rattle.forest.specs.declared.lasting_view.LastingView.{LastingView};
@@ -195,6 +198,39 @@ pub fn sights_last<S: Shape>()
         (λ n w. LearnsWith S.allows (λ rows. memory_unused m name) me.0 w.0 × (w.1 ≡ me.1)) }
 {
     unborn_stays_out();
+}
+
+/// A pass that is between two calls sees when an SCX-record of its own is dead. For each node that it
+/// covers a look at the place of the node's info tells that it is done with that, whoever is there, if
+/// another is named; or the pass knows it, as where it is committed and finalizes the node. It does
+/// nothing; a caller learns this from its contract.
+pub fn finished_last<S: Shape>()
+    ensures looks { (t : Lasting) (planting : PlantingView) (slots id : ℕ) (me : Me ℕ LastingView)
+        (p : SeatedPass) (m : Memory) (s : ScxNo) (j n : ℕ) → me.0.passes ≡ p ∷ []
+        → me.0.memories ≡ m ∷ [] → IsIn (RecordNo.Scx s) m.holds
+        → IsTakenScx (past_of p []) s.0 → AreFinished p.layout p.number.0 0 (past_of p [])
+        → member (past_of p []) s.0 j ≡ n
+        → Allows (TableLasts S.allows t planting) slots id me (table_place t (info n)) (λ v. v)
+        (λ v w. LearnsWith S.allows (λ rows. memory_looked_at m s j v) me.0 w.0
+        × (w.1 ≡ me.1)) }
+    ensures knows { (t : Lasting) (planting : PlantingView) (slots id : ℕ) (me : Me ℕ LastingView)
+        (p : SeatedPass) (m : Memory) (s : ScxNo) (at j : ℕ) → me.0.passes ≡ p ∷ []
+        → me.0.memories ≡ m ∷ [] → IsIn (RecordNo.Scx s) m.holds
+        → IsTakenScx (past_of p []) s.0 → AreFinished p.layout p.number.0 0 (past_of p [])
+        → WasDoneWith p.layout (past_of p []) s.0 j
+        → Allows (TableLasts S.allows t planting) slots id me at (λ v. v)
+        (λ v w. LearnsWith S.allows (λ rows. memory_done m s j) me.0 w.0 × (w.1 ≡ me.1)) }
+    ensures dead { (t : Lasting) (planting : PlantingView) (slots id : ℕ) (me : Me ℕ LastingView)
+        (p : SeatedPass) (m : Memory) (s : ScxNo) (at : ℕ) → me.0.passes ≡ p ∷ []
+        → me.0.memories ≡ m ∷ [] → IsIn (RecordNo.Scx s) m.holds
+        → IsTakenScx (past_of p []) s.0 → AreFinished p.layout p.number.0 0 (past_of p [])
+        → ((j : ℕ) → j < count (past_of p []) s.0
+        → IsIn (noted_as (RecordNo.Scx s) (NoteView.DoneWith j)) m.notes)
+        → Allows (TableLasts S.allows t planting) slots id me at (λ v. v)
+        (λ v w. LearnsWith S.allows (memory_over m s) me.0 w.0 × (w.1 ≡ me.1)) }
+{
+    unborn_stays_out();
+    dead_comes_back();
 }
 
 /// Each node of the tree is held, and its words are those of the run, whatever has come back. It does
