@@ -1,10 +1,10 @@
 -- To split a seat and to join two keeps the rule of a table that lasts.
-use Rattle.std.proofs.Common.{◌≡◌, ◌≢◌, ◌⊎◌, ◌++◌, ℕ, List, [], ◌∷◌, length, set, refl, sym, ◌∙◌, ap, subst, ⊎_elim}
+use Rattle.std.proofs.Common.{◌≡◌, ◌≢◌, ◌++◌, ℕ, List, [], ◌∷◌, length, set, refl, sym, ◌∙◌, subst, ⊎_elim}
 use mathlib.Core.Option.{some}
 use lib.ListN.{get_elem?}
 use Rattle.atomic_table.specs.Table.{State, Splits, Joins}
 use Rattle.atomic_table.proofs.Lists.{at_set}
-use Rattle.histories.specs.Common.{Layout, Row, History}
+use Rattle.histories.specs.Common.{Layout, History}
 use Rattle.planting.specs.Plantings.{PlantingView}
 use Rattle.slots.specs.Lasting.{Lasting}
 use Rattle.forest.specs.TableRule.{Owns, first_of, history_of, rest_of}

@@ -1,12 +1,12 @@
 -- What a pass sees of an SCX-record of its own that is finished, in a table that lasts.
-use Rattle.std.proofs.Common.{◌≡◌, ◌≢◌, ◌<◌, ◌≤◌, ◌⊎◌, ◌++◌, ℕ, true, false, eq-eqb, ne_eqb, List, [], ◌∷◌, slice_index, inl, inr, ⊎_elim, refl, sym, ◌∙◌, ap, subst, arith}
+use Rattle.std.proofs.Common.{◌≡◌, ◌≢◌, ◌<◌, ◌++◌, ℕ, true, false, eq-eqb, ne_eqb, List, [], ◌∷◌, slice_index, inl, inr, ⊎_elim, refl, sym, ◌∙◌, ap, subst, arith}
 use mathlib.Core.Option.{some}
 use lib.ListN.{get_elem?}
 use native.Mathlib.Decide.{ℕ_discrete, dec_lt}
 use Rattle.atomic_table.specs.Table.{State, Me, Act, Allows, Valid, carried_after, keeps, stepped}
-use Rattle.histories.specs.Common.{Layout, Row, Side, NodeWord, Settled, Child, Info, Marked, ScxWord, State as StateWord, AllFrozen, Plan, Member, History, Opened, ◌⊳◌, Extends, HasHeld, value, node, scx, info, marked, state, child, plan, count, count_of, member, field, field_index, side_of, same_word, opening_nodes, IsWord, IsOwnScx, IsTakenNode, IsTakenScx, ScxNo, Lawful, IsNamedScx, log, is_final}
+use Rattle.histories.specs.Common.{Layout, Row, NodeWord, Settled, Child, Info, Marked, ScxWord, State as StateWord, AllFrozen, Plan, Member, History, Opened, ◌⊳◌, HasHeld, value, node, scx, info, marked, state, plan, count, count_of, member, field, field_index, side_of, same_word, opening_nodes, IsOwnScx, IsTakenNode, IsTakenScx, ScxNo, Lawful, log, is_final}
 use Rattle.arena.proofs.Lemmas.{ends_self, ends_trans, held_at, held_more, node_apart, node_word_apart, opening_info, scx_apart, scx_word_apart, value_apart, value_quiet}
-use Rattle.histories.proofs.Lemmas.{Change, Facts, FillsNode, FillsScx, FreezeWins, IsNodeFill, IsScxFill, UpdateWins, aborts, change, commits, facts, fills_node, fills_scx, freeze_in_progress, freeze_keeps_scx, freeze_stores, freezes, lawful_row, lawful_tail, marks, nothing, one_scx_owner, own_node_inside, sets_frozen, updates}
+use Rattle.histories.proofs.Lemmas.{Change, Facts, FillsScx, FreezeWins, IsNodeFill, aborts, change, commits, facts, fills_node, fills_scx, freeze_in_progress, freeze_keeps_scx, freeze_stores, freezes, lawful_row, lawful_tail, marks, nothing, one_scx_owner, sets_frozen, updates}
 use Rattle.planting.specs.Plantings.{PlantingView}
 use Rattle.ordered_map.specs.Paths.{WasInTree}
 use Rattle.ordered_map.specs.Runs.{IsMapRun}
@@ -14,26 +14,24 @@ use Rattle.ordered_map.proofs.MapLemmas.{run_since}
 use Rattle.prims.specs.Moments.{AreFinished}
 use Rattle.touching.specs.Left.{HasLeft, IsNamedByLeft}
 use Rattle.touching.proofs.Lemmas.{taken_scx_since, was_since}
-use Rattle.resting.specs.Dead.{IsLetGoScx, IsUnborn, WasDoneWith}
-use Rattle.resting.specs.Records.{Record, the_node, the_scx}
-use Rattle.resting.specs.Rests.{HaveRestedAt}
+use Rattle.resting.specs.Dead.{IsLetGoScx, WasDoneWith}
+use Rattle.resting.specs.Records.{the_node}
 use Rattle.resting.proofs.Lemmas.{reached_stood}
 use Rattle.slots.specs.Held.{IsHeld}
-use Rattle.slots.specs.Lasting.{IsUntaken, Lasting, slot_of, table_place}
+use Rattle.slots.specs.Lasting.{Lasting, slot_of, table_place}
 use Rattle.slots.proofs.Lemmas.{name_record, untaken_zero}
-use Rattle.forest.specs.TableRule.{ByOthers, Owns, history_of, past_of}
-use Rattle.forest.specs.LastingRule.{IsGone, IsHeldName, IsIn, IsNoteSo, LearnsWith, Present, RemembersNames, RemembersWell, TableLasts, memory_done, memory_looked_at, memory_over, noted_as, plot_in, record_at}
+use Rattle.forest.specs.TableRule.{ByOthers, history_of, past_of}
+use Rattle.forest.specs.LastingRule.{IsGone, IsHeldName, IsIn, IsNoteSo, LearnsWith, Present, RemembersNames, RemembersWell, TableLasts, memory_done, memory_looked_at, memory_over, noted_as, record_at}
 use Rattle.forest.specs.declared.lasting_view.LastingView.{LastingView}
 use Rattle.forest.specs.declared.lasting_view.Memory.{Memory}
 use Rattle.forest.specs.declared.lasting_view.Noted.{Noted}
 use Rattle.forest.specs.declared.lasting_view.NoteView.TheVariants.{DoneWith, MarkedOrDead}
-use Rattle.forest.specs.declared.lasting_view.RecordNo.{RecordNo}
 use Rattle.forest.specs.declared.lasting_view.RecordNo.TheVariants.{Scx}
 use Rattle.forest.specs.declared.rule.Plot.{Plot}
 use Rattle.forest.specs.declared.view.SeatedPass.{SeatedPass}
 use Rattle.forest.proofs.LastingKept.{StaysUnborn}
-use Rattle.forest.proofs.LastingGhosts.{in_each, noted, seen_by}
-use Rattle.forest.proofs.LastingSeats.{aware, behind_known, here, lay_is, learnt, now, over, own, well}
+use Rattle.forest.proofs.LastingGhosts.{in_each, noted}
+use Rattle.forest.proofs.LastingSeats.{aware, behind_known, learnt, now, over, own, well}
 use Rattle.forest.proofs.LastingTrees.{taken_discrete}
 
 -- Words of an SCX-record

@@ -1,7 +1,5 @@
 -- What a pass sees of names keeps the rule of a table that lasts.
-use Rattle.std.proofs.Common.{◌≡◌, ◌≢◌, ◌<◌, ◌⊎◌, ℕ, false, eq-eqb, ne_eqb, List, [], ◌∷◌, slice_index, inl, inr, refl, sym, ◌∙◌, ap, subst}
-use mathlib.Core.Option.{some}
-use lib.ListN.{get_elem?}
+use Rattle.std.proofs.Common.{◌≡◌, ◌<◌, ℕ, false, eq-eqb, ne_eqb, [], ◌∷◌, slice_index, inl, inr, refl, sym, ◌∙◌, subst}
 use native.Mathlib.Decide.{ℕ_discrete}
 use Rattle.atomic_table.specs.Table.{Me, Act, Allows, Valid, carried_after, keeps, stepped}
 use Rattle.histories.specs.Common.{Layout, History, NodeNo, value, node, marked, IsTakenNode}
@@ -14,11 +12,10 @@ use Rattle.resting.specs.Reach.{IsOutOfReach}
 use Rattle.resting.proofs.Lemmas.{unborn_out, unnamed_out}
 use Rattle.slots.specs.Lasting.{Lasting, table_place}
 use Rattle.forest.specs.TableRule.{history_of, past_of}
-use Rattle.forest.specs.LastingRule.{IsGoneRecord, IsHeldName, IsIn, IsNoteSo, IsUnused, LearnsWith, Present, RemembersWell, TableLasts, memory_marked, memory_unused, noted_as, record_at}
+use Rattle.forest.specs.LastingRule.{IsGoneRecord, IsHeldName, IsIn, IsUnused, LearnsWith, Present, RemembersWell, TableLasts, memory_marked, memory_unused, noted_as, record_at}
 use Rattle.forest.specs.declared.lasting_view.LastingView.{LastingView}
 use Rattle.forest.specs.declared.lasting_view.Memory.{Memory}
-use Rattle.forest.specs.declared.lasting_view.Noted.{Noted}
-use Rattle.forest.specs.declared.lasting_view.NoteView.TheVariants.{MarkedOrDead, OutOfReach}
+use Rattle.forest.specs.declared.lasting_view.NoteView.TheVariants.{MarkedOrDead}
 use Rattle.forest.specs.declared.lasting_view.RecordNo.{RecordNo}
 use Rattle.forest.specs.declared.lasting_view.RecordNo.TheVariants.{Node}
 use Rattle.forest.specs.declared.rule.Plot.{Plot}

@@ -5,7 +5,7 @@ use mathlib.Core.Option.{some}
 use lib.ListN.{get_elem?}
 use native.Mathlib.Decide.{ℕ_discrete}
 use Rattle.atomic_table.specs.Table.{Me, Allows, keeps, State}
-use Rattle.histories.specs.Common.{Extends, HasNode, HasScx, History, IsWord, Layout, Remaining, Word, place, IsTakenNode}
+use Rattle.histories.specs.Common.{Extends, History, IsWord, Layout, Remaining, Word, place, IsTakenNode}
 use Rattle.arena.proofs.Lemmas.{ends_self}
 use Rattle.histories.proofs.Lemmas.{one_node_owner, one_scx_owner}
 use Rattle.planting.specs.Plantings.{PlantingView}

@@ -4,13 +4,11 @@ use mathlib.Core.Option.{some}
 use lib.ListN.{get_elem?}
 use native.Mathlib.Decide.{dec_lt}
 use Rattle.atomic_table.specs.Table.{State, Me, Allows, keeps}
-use Rattle.histories.specs.Common.{Layout, Row, Word, History, IsOwnNode, IsOwnScx, IsTakenNode, Lawful, IsRun, Remaining, HasNode, HasScx}
+use Rattle.histories.specs.Common.{Layout, Row, Word, History, IsOwnNode, IsOwnScx, IsTakenNode, IsRun, Remaining, HasNode, HasScx}
 use Rattle.arena.proofs.Lemmas.{ends_self}
-use Rattle.histories.proofs.Lemmas.{lawful_tail}
 use Rattle.planting.specs.Plantings.{PlantingView}
 use Rattle.ordered_map.specs.Paths.{WasInTree}
 use Rattle.prims.specs.Shares.{IsShare}
-use Rattle.prims.proofs.Lemmas.{share_by_others}
 use Rattle.resting.specs.Records.{Record, record_of, the_node, the_scx}
 use Rattle.resting.specs.Rests.{HaveMovedOn}
 use Rattle.slots.specs.Counts.{with_rest}
@@ -19,7 +17,7 @@ use Rattle.slots.specs.Lasting.{IsOwnRecord, IsUntaken, Lasting, slot_of}
 use Rattle.slots.specs.Window.{IsWindow}
 use Rattle.slots.proofs.Lemmas.{none_passed, passes_over, record_discrete, rest_other, rest_same, seen_moves, takes, with_other, with_same}
 use Rattle.forest.specs.Passes.{Each}
-use Rattle.forest.specs.TableRule.{ByOthers, Owns, history_of, seated_pass}
+use Rattle.forest.specs.TableRule.{Owns, history_of, seated_pass}
 use Rattle.forest.specs.LastingRule.{AreHeldOrGone, GoesOnWith, IsDealt, IsEmptySlot, IsGone, IsZeroWord, MayTake, Present, RemembersNames, RemembersWell, TableLasts, memory_with, memory_with_node, memory_with_scx, node_ahead, past_nodes, past_scxs, plot_in, present, record_at, scx_ahead, without_words}
 use Rattle.forest.specs.declared.lasting_view.LastingView.{LastingView}
 use Rattle.forest.specs.declared.lasting_view.Memory.{Memory}

@@ -1,5 +1,5 @@
 -- The nodes of the tree are in the words of a table that lasts.
-use Rattle.std.proofs.Common.{◌≡◌, ◌<◌, ◌⊎◌, ℕ, true, true≢false, inl, inr, ⊎_elim, refl, sym, ◌∙◌, ap, slice_index, arith}
+use Rattle.std.proofs.Common.{◌≡◌, ◌<◌, ◌⊎◌, ℕ, true≢false, inl, inr, ⊎_elim, refl, sym, ◌∙◌, ap, slice_index, arith}
 use native.Mathlib.Decide.{ℕ_discrete, dec_lt}
 use Rattle.atomic_table.specs.Table.{State}
 use Rattle.histories.specs.Common.{Layout, Row, Kind, Fill, NodeWord, Word, Node, Scx, History, Opened, ◌⊳◌, value, node, opening_nodes, IsWord, IsFillOfNode, IsTakenNode}
