@@ -8,7 +8,9 @@ use Rattle.histories.specs.Common.{Layout, History}
 use Rattle.planting.specs.Plantings.{PlantingView}
 use Rattle.slots.specs.Lasting.{Lasting}
 use Rattle.forest.specs.TableRule.{Owns, first_of, history_of, rest_of}
-use Rattle.forest.specs.LastingRule.{Present, RememberWell, TableLasts, first_memory_of, first_of_view, joined_view, no_view, plot_in, present, rest_of_view, rest_of_memories}
+use Rattle.forest.specs.LastingMemory.{Present, RememberWell, present}
+use Rattle.forest.specs.LastingRule.{TableLasts, plot_in}
+use Rattle.forest.specs.LastingViews.{first_memory_of, first_of_view, joined_view, no_view, rest_of_view, rest_of_memories}
 use Rattle.forest.specs.declared.lasting_view.LastingView.{LastingView}
 use Rattle.forest.specs.declared.lasting_view.Memory.{Memory}
 use Rattle.forest.specs.declared.view.SeatedPass.{SeatedPass}

@@ -21,7 +21,9 @@ use Rattle.slots.specs.Held.{IsHeld}
 use Rattle.slots.specs.Lasting.{Lasting, slot_of, table_place}
 use Rattle.slots.proofs.Lemmas.{name_record, untaken_zero}
 use Rattle.forest.specs.TableRule.{ByOthers, history_of, past_of}
-use Rattle.forest.specs.LastingRule.{IsGone, IsHeldName, IsIn, IsNoteSo, LearnsWith, Present, RemembersNames, RemembersWell, TableLasts, memory_done, memory_looked_at, memory_over, noted_as, record_at}
+use Rattle.forest.specs.LastingMemory.{IsGone, IsHeldName, IsNoteSo, Present, RemembersNames, RemembersWell, record_at}
+use Rattle.forest.specs.LastingNotes.{IsIn, memory_done, memory_looked_at, memory_over, noted_as}
+use Rattle.forest.specs.LastingRule.{LearnsWith, TableLasts}
 use Rattle.forest.specs.declared.lasting_view.LastingView.{LastingView}
 use Rattle.forest.specs.declared.lasting_view.Memory.{Memory}
 use Rattle.forest.specs.declared.lasting_view.Noted.{Noted}

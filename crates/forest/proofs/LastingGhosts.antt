@@ -14,7 +14,9 @@ use Rattle.slots.specs.Window.{IsWindow}
 use Rattle.slots.proofs.Lemmas.{seen_moves}
 use Rattle.forest.specs.Passes.{Each}
 use Rattle.forest.specs.TableRule.{Owns, history_of, seated_pass}
-use Rattle.forest.specs.LastingRule.{AreHeldOrGone, IsIn, Present, RememberWell, RemembersNames, RemembersWell, TableLasts, plot_in, present}
+use Rattle.forest.specs.LastingMemory.{AreHeldOrGone, Present, RememberWell, RemembersNames, RemembersWell, present}
+use Rattle.forest.specs.LastingNotes.{IsIn}
+use Rattle.forest.specs.LastingRule.{TableLasts, plot_in}
 use Rattle.forest.specs.declared.lasting_view.LastingView.{LastingView}
 use Rattle.forest.specs.declared.lasting_view.Memory.{Memory}
 use Rattle.forest.specs.declared.view.SeatedPass.{SeatedPass}

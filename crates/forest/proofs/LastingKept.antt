@@ -19,7 +19,8 @@ use Rattle.slots.specs.Held.{Held, IsHeld}
 use Rattle.slots.specs.Lasting.{IsOwnRecord, IsUntaken, Lasting}
 use Rattle.forest.specs.Passes.{Each}
 use Rattle.forest.specs.TableRule.{Owns, history_of}
-use Rattle.forest.specs.LastingRule.{HasPolledSo, IsEmptySlot, IsGone, IsGoneRecord, IsNoteSo, IsPollSo, IsZeroWord, Present, RememberWell, RemembersNames, RemembersWell, plot_in, record_at}
+use Rattle.forest.specs.LastingMemory.{HasPolledSo, IsEmptySlot, IsGone, IsGoneRecord, IsNoteSo, IsPollSo, IsZeroWord, Present, RememberWell, RemembersNames, RemembersWell, record_at}
+use Rattle.forest.specs.LastingRule.{plot_in}
 use Rattle.forest.specs.declared.lasting_view.LastingView.{LastingView}
 use Rattle.forest.specs.declared.lasting_view.Memory.{Memory}
 use Rattle.forest.specs.declared.lasting_view.NoteView.{NoteView}

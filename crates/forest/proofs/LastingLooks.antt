@@ -12,7 +12,9 @@ use Rattle.slots.specs.Counts.{HasPolled, HasSeenRests, rests_place}
 use Rattle.slots.specs.Lasting.{Lasting}
 use Rattle.slots.proofs.Lemmas.{finds_away, polls, seen_now}
 use Rattle.forest.specs.TableRule.{history_of}
-use Rattle.forest.specs.LastingRule.{HasPolledSo, IsIn, IsPollSo, LearnsWith, Present, RemembersNames, RemembersWell, TableLasts, memory_looked, memory_polled, present, waits_of}
+use Rattle.forest.specs.LastingMemory.{HasPolledSo, IsPollSo, Present, RemembersNames, RemembersWell, present}
+use Rattle.forest.specs.LastingNotes.{IsIn, memory_looked, memory_polled, waits_of}
+use Rattle.forest.specs.LastingRule.{LearnsWith, TableLasts}
 use Rattle.forest.specs.declared.lasting_view.LastingView.{LastingView}
 use Rattle.forest.specs.declared.lasting_view.Memory.{Memory}
 use Rattle.forest.specs.declared.lasting_view.Polled.{Polled}

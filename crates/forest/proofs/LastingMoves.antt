@@ -15,7 +15,8 @@ use Rattle.slots.specs.Lasting.{IsOwnRecord, IsUntaken, Lasting, table_place}
 use Rattle.slots.specs.Window.{IsHeldStep, IsWindow}
 use Rattle.slots.proofs.Lemmas.{counts_rows, counts_stores, empty_apart, seen_rows, steps}
 use Rattle.forest.specs.TableRule.{Made, Owns, history_of, past_of, row, seated_pass}
-use Rattle.forest.specs.LastingRule.{AreHeldOrGone, IsGone, MayStepOn, Present, RememberWell, RemembersWell, TableLasts, plot_in, present}
+use Rattle.forest.specs.LastingMemory.{AreHeldOrGone, IsGone, Present, RememberWell, RemembersWell, present}
+use Rattle.forest.specs.LastingRule.{MayStepOn, TableLasts, plot_in}
 use Rattle.forest.specs.declared.lasting_view.LastingView.{LastingView}
 use Rattle.forest.specs.declared.lasting_view.Memory.{Memory}
 use Rattle.forest.specs.declared.rule.CallStep.{CallStep}

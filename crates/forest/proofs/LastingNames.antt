@@ -21,7 +21,9 @@ use Rattle.slots.specs.Passing.{row_over}
 use Rattle.slots.specs.Window.{HasPassedOver}
 use Rattle.slots.proofs.Lemmas.{counts_rows, never_stood, node_rests, passes_node, passes_scx, scx_rests, seen_rows}
 use Rattle.forest.specs.TableRule.{Owns, history_of}
-use Rattle.forest.specs.LastingRule.{IsDealt, past_nodes, past_scxs, plot_in, scx_rows}
+use Rattle.forest.specs.LastingMemory.{IsDealt}
+use Rattle.forest.specs.LastingNames.{past_nodes, past_scxs, scx_rows}
+use Rattle.forest.specs.LastingRule.{plot_in}
 use Rattle.forest.specs.declared.lasting_view.Memory.{Memory}
 use Rattle.forest.specs.declared.view.SeatedPass.{SeatedPass}
 use Rattle.forest.proofs.Moves.{owns_more}

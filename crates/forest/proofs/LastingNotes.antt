@@ -13,7 +13,9 @@ use Rattle.resting.specs.Rests.{AreSince, HaveRestedAt}
 use Rattle.slots.specs.Lasting.{Lasting}
 use Rattle.forest.specs.Passes.{Each}
 use Rattle.forest.specs.TableRule.{history_of}
-use Rattle.forest.specs.LastingRule.{HasRestedSince, IsBefore, IsGoneRecord, IsIn, IsNoteSo, IsPollSo, LearnsWith, Present, RemembersWell, TableLasts, further, further_all, memory_noted, record_at, rested_poll}
+use Rattle.forest.specs.LastingMemory.{IsGoneRecord, IsNoteSo, IsPollSo, Present, RemembersWell, record_at}
+use Rattle.forest.specs.LastingNotes.{HasRestedSince, IsBefore, IsIn, further, further_all, memory_noted, rested_poll}
+use Rattle.forest.specs.LastingRule.{LearnsWith, TableLasts}
 use Rattle.forest.specs.declared.lasting_view.LastingView.{LastingView}
 use Rattle.forest.specs.declared.lasting_view.Memory.{Memory}
 use Rattle.forest.specs.declared.lasting_view.Noted.{Noted}

@@ -12,7 +12,9 @@ use Rattle.slots.specs.Lasting.{IsOwnName, IsOwnRecord, IsUntaken, Lasting, slot
 use Rattle.slots.proofs.Lemmas.{counts_open, first_names, first_nodes_held, first_scx_held, node_lap, opens, scx_lap}
 use Rattle.forest.specs.Passes.{Each}
 use Rattle.forest.specs.TableRule.{Absent, Owns, new_passes}
-use Rattle.forest.specs.LastingRule.{IsDealt, IsHeldName, OpensLasting, Present, RememberWell, RemembersWell, TableLasts, first_memories, first_memory, first_view, nodes_from, plot_in, present, scx_from}
+use Rattle.forest.specs.LastingMemory.{IsDealt, IsHeldName, Present, RememberWell, RemembersWell, present}
+use Rattle.forest.specs.LastingRule.{TableLasts, plot_in}
+use Rattle.forest.specs.LastingViews.{OpensLasting, first_memories, first_memory, first_view, nodes_from, scx_from}
 use Rattle.forest.specs.declared.lasting_view.LastingView.{LastingView}
 use Rattle.forest.specs.declared.lasting_view.RecordNo.{RecordNo}
 use Rattle.forest.specs.declared.lasting_view.RecordNo.TheVariants.{Node, Scx}

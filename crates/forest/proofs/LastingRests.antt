@@ -15,7 +15,9 @@ use Rattle.slots.specs.Lasting.{Lasting}
 use Rattle.slots.specs.Window.{IsWindow}
 use Rattle.slots.proofs.Lemmas.{leaves, place_inside, rest_other, rest_same, rests_more, seen_leaves, seen_rests}
 use Rattle.forest.specs.TableRule.{Owns, history_of, past_of}
-use Rattle.forest.specs.LastingRule.{AreHeldOrGone, LearnsWith, Present, RememberWell, RemembersNames, RemembersWell, TableLasts, memory_away, memory_rested, plot_in, present}
+use Rattle.forest.specs.LastingMemory.{AreHeldOrGone, Present, RememberWell, RemembersNames, RemembersWell, present}
+use Rattle.forest.specs.LastingNotes.{memory_away, memory_rested}
+use Rattle.forest.specs.LastingRule.{LearnsWith, TableLasts, plot_in}
 use Rattle.forest.specs.declared.lasting_view.LastingView.{LastingView}
 use Rattle.forest.specs.declared.lasting_view.Memory.{Memory}
 use Rattle.forest.specs.declared.view.SeatedPass.{SeatedPass}

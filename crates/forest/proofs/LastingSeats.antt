@@ -14,7 +14,8 @@ use Rattle.resting.specs.Rests.{IsAway}
 use Rattle.resting.proofs.Lemmas.{away_more, away_now, rested_away}
 use Rattle.slots.specs.Lasting.{Lasting}
 use Rattle.forest.specs.TableRule.{ByOthers, Owns, history_of, past_of, seated_pass}
-use Rattle.forest.specs.LastingRule.{HasLearnt, Present, RememberWell, RemembersWell, TableLasts, plot_in, present}
+use Rattle.forest.specs.LastingMemory.{Present, RememberWell, RemembersWell, present}
+use Rattle.forest.specs.LastingRule.{HasLearnt, TableLasts, plot_in}
 use Rattle.forest.specs.declared.lasting_view.LastingView.{LastingView}
 use Rattle.forest.specs.declared.lasting_view.Memory.{Memory}
 use Rattle.forest.specs.declared.rule.Plot.{Plot}

@@ -12,7 +12,9 @@ use Rattle.resting.specs.Reach.{IsOutOfReach}
 use Rattle.resting.proofs.Lemmas.{unborn_out, unnamed_out}
 use Rattle.slots.specs.Lasting.{Lasting, table_place}
 use Rattle.forest.specs.TableRule.{history_of, past_of}
-use Rattle.forest.specs.LastingRule.{IsGoneRecord, IsHeldName, IsIn, IsUnused, LearnsWith, Present, RemembersWell, TableLasts, memory_marked, memory_unused, noted_as, record_at}
+use Rattle.forest.specs.LastingMemory.{IsGoneRecord, IsHeldName, Present, RemembersWell, record_at}
+use Rattle.forest.specs.LastingNotes.{IsIn, IsUnused, memory_marked, memory_unused, noted_as}
+use Rattle.forest.specs.LastingRule.{LearnsWith, TableLasts}
 use Rattle.forest.specs.declared.lasting_view.LastingView.{LastingView}
 use Rattle.forest.specs.declared.lasting_view.Memory.{Memory}
 use Rattle.forest.specs.declared.lasting_view.NoteView.TheVariants.{MarkedOrDead}

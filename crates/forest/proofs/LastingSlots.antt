@@ -21,7 +21,10 @@ use Rattle.slots.specs.Window.{IsWindow}
 use Rattle.slots.proofs.Lemmas.{cleans, counts_stores, lets_go, place_inside, record_discrete, with_other, with_same}
 use Rattle.forest.specs.Passes.{Each}
 use Rattle.forest.specs.TableRule.{history_of, past_of}
-use Rattle.forest.specs.LastingRule.{AreHeldOrGone, IsDealt, IsEmptySlot, IsGone, IsGoneRecord, IsHeldName, IsIn, IsLastDealt, IsLeft, IsNoteSo, IsZeroWord, LearnsWith, Present, RemembersNames, RemembersWell, TableLasts, WasTaken, memory_cleared, memory_given_back, memory_let_go, memory_without, noted_as, present, record_at, slot_number, without}
+use Rattle.forest.specs.LastingMemory.{AreHeldOrGone, IsDealt, IsEmptySlot, IsGone, IsGoneRecord, IsHeldName, IsNoteSo, IsZeroWord, Present, RemembersNames, RemembersWell, present, record_at}
+use Rattle.forest.specs.LastingNotes.{IsIn, noted_as}
+use Rattle.forest.specs.LastingRule.{LearnsWith, TableLasts}
+use Rattle.forest.specs.LastingSlots.{IsLastDealt, IsLeft, WasTaken, memory_cleared, memory_given_back, memory_let_go, memory_without, slot_number, without}
 use Rattle.forest.specs.declared.lasting_view.LastingView.{LastingView}
 use Rattle.forest.specs.declared.lasting_view.Memory.{Memory}
 use Rattle.forest.specs.declared.lasting_view.NoteView.TheVariants.{OutOfReach}

@@ -18,7 +18,9 @@ use Rattle.slots.specs.Window.{IsWindow}
 use Rattle.slots.proofs.Lemmas.{none_passed, passes_over, record_discrete, rest_other, rest_same, seen_moves, takes, with_other, with_same}
 use Rattle.forest.specs.Passes.{Each}
 use Rattle.forest.specs.TableRule.{Owns, history_of, seated_pass}
-use Rattle.forest.specs.LastingRule.{AreHeldOrGone, GoesOnWith, IsDealt, IsEmptySlot, IsGone, IsZeroWord, MayTake, Present, RemembersNames, RemembersWell, TableLasts, memory_with, memory_with_node, memory_with_scx, node_ahead, past_nodes, past_scxs, plot_in, present, record_at, scx_ahead, without_words}
+use Rattle.forest.specs.LastingMemory.{AreHeldOrGone, IsDealt, IsEmptySlot, IsGone, IsZeroWord, Present, RemembersNames, RemembersWell, present, record_at}
+use Rattle.forest.specs.LastingNames.{MayTake, memory_with, memory_with_node, memory_with_scx, node_ahead, past_nodes, past_scxs, scx_ahead, without_words}
+use Rattle.forest.specs.LastingRule.{GoesOnWith, TableLasts, plot_in}
 use Rattle.forest.specs.declared.lasting_view.LastingView.{LastingView}
 use Rattle.forest.specs.declared.lasting_view.Memory.{Memory}
 use Rattle.forest.specs.declared.lasting_view.RecordNo.{RecordNo}

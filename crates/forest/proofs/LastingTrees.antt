@@ -15,7 +15,8 @@ use Rattle.slots.specs.Held.{IsHeld}
 use Rattle.slots.specs.Lasting.{Lasting, table_place}
 use Rattle.slots.proofs.Lemmas.{never_stood}
 use Rattle.forest.specs.TableRule.{history_of}
-use Rattle.forest.specs.LastingRule.{IsGone, TableLasts}
+use Rattle.forest.specs.LastingMemory.{IsGone}
+use Rattle.forest.specs.LastingRule.{TableLasts}
 use Rattle.forest.specs.declared.lasting_view.LastingView.{LastingView}
 use Rattle.forest.proofs.LastingKept.{StaysUnborn}
 
