@@ -11,47 +11,47 @@ use Rattle.forest.specs.declared.view.SeatedPass.{SeatedPass}
 use Rattle.forest.specs.declared.view.SeatView.{SeatView}
 use Rattle.forest.specs.TableRule.{TableIsLawful, Owns, Absent, seat_view, new_passes, rest_of_seat, first_of_seat, joined_seat, rest_of, first_of}
 
-snoc_at : {A : Type 0} (l : List A) (a b : A) (j : ℕ) → get_elem? (l ++ a ∷ []) j ≡ some b → (get_elem? l j ≡ some b) ⊎ ((j ≡ length l) × (a ≡ b))
+pub snoc_at : {A : Type 0} (l : List A) (a b : A) (j : ℕ) → get_elem? (l ++ a ∷ []) j ≡ some b → (get_elem? l j ≡ some b) ⊎ ((j ≡ length l) × (a ≡ b))
 snoc_at [] a b zero e = inr (refl, some-injective a b e)
 snoc_at [] a b (suc j) e = absurd (some-ne-none b (sym e))
 snoc_at (x ∷ xs) a b zero e = inl e
 snoc_at (x ∷ xs) a b (suc j) e = ⊎_elim (λ h. inl h) (λ t. inr (ap suc t.0, t.1)) (snoc_at xs a b j e)
 
 -- the pass n has a new seat
-moved : (ℕ → ℕ) → ℕ → ℕ → ℕ → ℕ
+pub moved : (ℕ → ℕ) → ℕ → ℕ → ℕ → ℕ
 moved owner n to x = if x == n then to else owner x
 
-moved_here : (owner : ℕ → ℕ) (n to : ℕ) → moved owner n to n ≡ to
+pub moved_here : (owner : ℕ → ℕ) (n to : ℕ) → moved owner n to n ≡ to
 unfolding moved
 moved_here owner n to = rw (eq-eqb n n refl) refl
 
-moved_else : (owner : ℕ → ℕ) (n to x : ℕ) → x ≢ n → moved owner n to x ≡ owner x
+pub moved_else : (owner : ℕ → ℕ) (n to x : ℕ) → x ≢ n → moved owner n to x ≡ owner x
 unfolding moved
 moved_else owner n to x ne = rw (ne_eqb x n ne) refl
 
 -- the passes of a seat have another
-merged : (ℕ → ℕ) → ℕ → ℕ → ℕ → ℕ
+pub merged : (ℕ → ℕ) → ℕ → ℕ → ℕ → ℕ
 merged owner id other x = if owner x == other then id else owner x
 
-merged_here : (owner : ℕ → ℕ) (id other x : ℕ) → owner x ≡ other → merged owner id other x ≡ id
+pub merged_here : (owner : ℕ → ℕ) (id other x : ℕ) → owner x ≡ other → merged owner id other x ≡ id
 unfolding merged
 merged_here owner id other x e = rw (eq-eqb (owner x) other e) refl
 
-merged_else : (owner : ℕ → ℕ) (id other x : ℕ) → owner x ≢ other → merged owner id other x ≡ owner x
+pub merged_else : (owner : ℕ → ℕ) (id other x : ℕ) → owner x ≢ other → merged owner id other x ≡ owner x
 unfolding merged
 merged_else owner id other x ne = rw (ne_eqb (owner x) other ne) refl
 
 module _ (plot : Plot) (run : List Row) (owner : ℕ → ℕ) where
-  absent_of : (n j : ℕ) → owner n ≢ j → (ps : List SeatedPass) → Owns plot run owner j ps → Absent n ps
+  pub absent_of : (n j : ℕ) → owner n ≢ j → (ps : List SeatedPass) → Owns plot run owner j ps → Absent n ps
   absent_of n j ne [] h = tt
   absent_of n j ne (p ∷ ps) h = ((λ e. ne (ap owner (sym e) ∙ h.0)), absent_of n j ne ps h.4)
 
   -- another owner function that agrees on these passes
-  owned_by : (other : ℕ → ℕ) (j k : ℕ) → ((x : ℕ) → owner x ≡ j → other x ≡ k) → (ps : List SeatedPass) → Owns plot run owner j ps → Owns plot run other k ps
+  pub owned_by : (other : ℕ → ℕ) (j k : ℕ) → ((x : ℕ) → owner x ≡ j → other x ≡ k) → (ps : List SeatedPass) → Owns plot run owner j ps → Owns plot run other k ps
   owned_by other j k same [] h = tt
   owned_by other j k same (p ∷ ps) h = (same p.number.0 h.0, h.1, h.2, h.3, owned_by other j k same ps h.4)
 
-  owned_apart : (n to j : ℕ) (ps : List SeatedPass) → Absent n ps → Owns plot run owner j ps → Owns plot run (moved owner n to) j ps
+  pub owned_apart : (n to j : ℕ) (ps : List SeatedPass) → Absent n ps → Owns plot run owner j ps → Owns plot run (moved owner n to) j ps
   owned_apart n to j [] a h = tt
   owned_apart n to j (p ∷ ps) a h = (moved_else owner n to p.number.0 a.0 ∙ h.0, h.1, h.2, h.3, owned_apart n to j ps a.1 h.4)
 
@@ -59,7 +59,7 @@ module _ (plot : Plot) (run : List Row) (owner : ℕ → ℕ) where
   absent_both n [] qs a b = b
   absent_both n (p ∷ ps) qs a b = (a.0, absent_both n ps qs a.1 b)
 
-  owned_both : (id other : ℕ) → id ≢ other → (ps qs : List SeatedPass) → Owns plot run owner id ps → Owns plot run owner other qs → Owns plot run (merged owner id other) id (ps ++ qs)
+  pub owned_both : (id other : ℕ) → id ≢ other → (ps qs : List SeatedPass) → Owns plot run owner id ps → Owns plot run owner other qs → Owns plot run (merged owner id other) id (ps ++ qs)
   owned_both id other ne [] qs h k = owned_by (merged owner id other) other id (λ x e. merged_here owner id other x e) qs k
   owned_both id other ne (p ∷ ps) qs h k = (
     merged_else owner id other p.number.0 (λ e. ne (sym h.0 ∙ e)) ∙ h.0,

@@ -1,9 +1,9 @@
 -- Moves that no word shows: a load, by which a pass comes to know the run, and remembers more.
-use Rattle.std.proofs.Common.{◌≡◌, ◌≢◌, ◌<◌, ◌⊎◌, ℕ, Bool, false, List, [], ◌∷◌, slice_index, slice_set, inl, inr, refl, sym, ◌∙◌, ap, subst}
+use Rattle.std.proofs.Common.{◌≡◌, ◌≢◌, ℕ, false, List, [], ◌∷◌, slice_index, slice_set, inl, inr, refl, sym, ◌∙◌, ap, subst}
 use mathlib.Core.Option.{some}
 use lib.ListN.{get_elem?}
 use Rattle.atomic_table.specs.Table.{State}
-use Rattle.histories.specs.Common.{Layout, Row, History, Extends, IsRun}
+use Rattle.histories.specs.Common.{Layout, Row, History, IsRun}
 use Rattle.arena.proofs.Lemmas.{ends_self}
 use Rattle.planting.specs.Plantings.{PlantingView}
 use Rattle.resting.specs.Rests.{HaveMovedOn, HaveRestedAt}
@@ -14,7 +14,9 @@ use Rattle.slots.specs.Window.{IsWindow}
 use Rattle.slots.proofs.Lemmas.{seen_moves}
 use Rattle.forest.specs.Passes.{Each}
 use Rattle.forest.specs.TableRule.{Owns, history_of, seated_pass}
-use Rattle.forest.specs.LastingRule.{AreHeldOrGone, IsIn, Present, RememberWell, RemembersNames, RemembersWell, TableLasts, plot_in, present}
+use Rattle.forest.specs.LastingMemory.{AreHeldOrGone, Present, RememberWell, RemembersNames, RemembersWell, present}
+use Rattle.forest.specs.LastingNotes.{IsIn}
+use Rattle.forest.specs.LastingRule.{TableLasts, plot_in}
 use Rattle.forest.specs.declared.lasting_view.LastingView.{LastingView}
 use Rattle.forest.specs.declared.lasting_view.Memory.{Memory}
 use Rattle.forest.specs.declared.view.SeatedPass.{SeatedPass}

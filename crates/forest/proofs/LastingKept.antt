@@ -1,10 +1,10 @@
 -- What passes remember stays so, and what is gone stays gone, however a table goes on.
-use Rattle.std.proofs.Common.{◌≡◌, ◌≢◌, ◌<◌, ◌⊎◌, ℕ, Bool, true, false, List, [], ◌∷◌, Option, Some, None, slice_index, slice_set, inl, inr, ⊎_elim, refl, sym, ◌∙◌, ap, subst}
+use Rattle.std.proofs.Common.{◌≡◌, ◌≢◌, ◌<◌, ℕ, true, false, List, [], ◌∷◌, Option, Some, None, slice_index, slice_set, inl, inr, ⊎_elim, sym, ◌∙◌, ap, subst}
 use mathlib.Core.Option.{some}
 use lib.ListN.{get_elem?}
 use Rattle.atomic_table.proofs.Lists.{at_set}
-use Rattle.histories.specs.Common.{Layout, Row, Word, History, ◌⊳◌, Extends, IsWord, IsTakenNode, IsTakenScx, Lawful, place, log, is_final}
-use Rattle.arena.proofs.Lemmas.{ends_self, ends_trans}
+use Rattle.histories.specs.Common.{Layout, Row, Word, History, ◌⊳◌, Extends, IsWord, Lawful, place, log, is_final}
+use Rattle.arena.proofs.Lemmas.{ends_trans}
 use Rattle.histories.proofs.Lemmas.{by_final, final_by, finalized_by_stays, lawful_tail, since}
 use Rattle.planting.specs.Plantings.{PlantingView}
 use Rattle.ordered_map.specs.Runs.{IsMapRun}
@@ -12,18 +12,19 @@ use Rattle.ordered_map.proofs.MapLemmas.{run_since}
 use Rattle.touching.proofs.Lemmas.{left_since, taken_scx_since}
 use Rattle.resting.specs.Dead.{IsUnborn}
 use Rattle.resting.specs.Records.{Record, record_of, the_node, the_scx}
-use Rattle.resting.specs.Rests.{HasRestedAt, HaveMovedOn, HaveRestedAt}
+use Rattle.resting.specs.Rests.{HasRestedAt, HaveMovedOn}
 use Rattle.resting.proofs.Lemmas.{out_anew, out_since, taken_node_since}
 use Rattle.slots.specs.Counts.{HasSeenRests}
 use Rattle.slots.specs.Held.{Held, IsHeld}
 use Rattle.slots.specs.Lasting.{IsOwnRecord, IsUntaken, Lasting}
 use Rattle.forest.specs.Passes.{Each}
 use Rattle.forest.specs.TableRule.{Owns, history_of}
-use Rattle.forest.specs.LastingRule.{HasPolledSo, IsEmptySlot, IsGone, IsGoneRecord, IsNoteSo, IsPollSo, IsZeroWord, Present, RememberWell, RemembersNames, RemembersWell, plot_in, record_at}
+use Rattle.forest.specs.LastingMemory.{HasPolledSo, IsEmptySlot, IsGone, IsGoneRecord, IsNoteSo, IsPollSo, IsZeroWord, Present, RememberWell, RemembersNames, RemembersWell, record_at}
+use Rattle.forest.specs.LastingRule.{plot_in}
 use Rattle.forest.specs.declared.lasting_view.LastingView.{LastingView}
 use Rattle.forest.specs.declared.lasting_view.Memory.{Memory}
 use Rattle.forest.specs.declared.lasting_view.NoteView.{NoteView}
-use Rattle.forest.specs.declared.lasting_view.NoteView.TheVariants.{MarkedOrDead, DeadBy, OutOfReach}
+use Rattle.forest.specs.declared.lasting_view.NoteView.TheVariants.{MarkedOrDead, DeadBy, OutOfReach, DoneWith}
 use Rattle.forest.specs.declared.lasting_view.Polled.{Polled}
 use Rattle.forest.specs.declared.lasting_view.RecordNo.{RecordNo}
 use Rattle.forest.specs.declared.view.SeatedPass.{SeatedPass}
@@ -64,6 +65,8 @@ module _ (t : Lasting) (planting : PlantingView) (a b : Present) (x : Later t a 
   note_kept o r (MarkedOrDead rows) y = (ends_trans b.run a.run (history_of planting rows) x.within y.0, ⊎_elim inl (λ z. inr (z.0, gone_record_kept r z.1)) y.1)
   note_kept o r (DeadBy rows) y = ((ends_trans b.run a.run (history_of planting rows) x.within y.0.0, y.0.1), gone_record_kept r y.1)
   note_kept o r OutOfReach y = (out_anew t.lay b.run a.last b.last r x.moved (out_since t.lay a.run b.run a.last r x.within y.0), gone_record_kept r y.1)
+  note_kept o (the_node n) (DoneWith j) y = y
+  note_kept o (the_scx s) (DoneWith j) y = (y.0, ends_trans b.run a.run y.0 x.within y.1, y.2, y.3)
 
   polled_kept : (p : ℕ) (m : History) (w : Option ℕ) → p < t.lay.passes → HasPolledSo a p m w → HasPolledSo b p m w
   polled_kept p m (Some n) i z = x.seen p m n i z
@@ -116,8 +119,9 @@ spared t planting a b x stays same words q = record {
 
 module _ (t : Lasting) (planting : PlantingView) (a b : Present) where
   pub remember_kept : (ok : ℕ → Type 0) → ((q : ℕ) (m : Memory) → ok q → RemembersWell t planting a q m → RemembersWell t planting b q m) → (rows : List Row) (owner : ℕ → ℕ) (id : ℕ) → ((q : ℕ) → owner q ≡ id → ok q) → (ps : List SeatedPass) (ms : List Memory) → Owns (plot_in t planting) rows owner id ps → RememberWell t planting a ps ms → RememberWell t planting b ps ms
-  remember_kept ok f rows owner id is [] ms own y = tt
-  remember_kept ok f rows owner id is (p ∷ ps) [] own y = tt
+  remember_kept ok f rows owner id is [] [] own y = tt
+  remember_kept ok f rows owner id is [] (m ∷ ms) own y = y
+  remember_kept ok f rows owner id is (p ∷ ps) [] own y = y
   remember_kept ok f rows owner id is (p ∷ ps) (m ∷ ms) own y = (f p.number.0 m (is p.number.0 own.0) y.0, remember_kept ok f rows owner id is ps ms own.4 y.1)
 
 -- Views after the seat `id` has got the view w: what it holds of is shown, and what others have is kept

@@ -1,19 +1,20 @@
 -- Looks at what others have counted keep the rule of a table that lasts.
-use Rattle.std.proofs.Common.{◌≡◌, ◌≢◌, ◌+◌, ◌*◌, ◌/◌, ◌%◌, ◌<◌, ◌⊎◌, ℕ, Bool, true, false, eq-eqb, ne_eqb, List, [], ◌∷◌, Option, Some, None, slice_index, inl, inr, refl, sym, ◌∙◌, ap, subst, arith}
+use Rattle.std.proofs.Common.{◌≡◌, ◌+◌, ◌*◌, ◌/◌, ◌%◌, ◌<◌, ℕ, Bool, true, false, eq-eqb, ne_eqb, [], ◌∷◌, Some, None, slice_index, refl, sym, ◌∙◌, ap, subst, arith}
 use mathlib.Core.Option.{some}
 use lib.ListN.{get_elem?}
 use native.Mathlib.Decide.{ℕ_discrete}
 use Rattle.atomic_table.specs.Table.{State, Me, Act, Allows, Valid, carried_after, keeps, stepped}
-use Rattle.histories.specs.Common.{Layout, Row, History, Extends}
+use Rattle.histories.specs.Common.{Layout, History}
 use Rattle.arena.specs.ScxRecords.{bit}
 use Rattle.arena.proofs.Lemmas.{ends_self}
 use Rattle.planting.specs.Plantings.{PlantingView}
 use Rattle.slots.specs.Counts.{HasPolled, HasSeenRests, rests_place}
 use Rattle.slots.specs.Lasting.{Lasting}
 use Rattle.slots.proofs.Lemmas.{finds_away, polls, seen_now}
-use Rattle.forest.specs.Passes.{Each}
 use Rattle.forest.specs.TableRule.{history_of}
-use Rattle.forest.specs.LastingRule.{HasPolledSo, IsIn, IsPollSo, LearnsWith, Present, RemembersNames, RemembersWell, TableLasts, memory_looked, memory_polled, present, waits_of}
+use Rattle.forest.specs.LastingMemory.{HasPolledSo, IsPollSo, Present, RemembersNames, RemembersWell, present}
+use Rattle.forest.specs.LastingNotes.{IsIn, memory_looked, memory_polled, waits_of}
+use Rattle.forest.specs.LastingRule.{LearnsWith, TableLasts}
 use Rattle.forest.specs.declared.lasting_view.LastingView.{LastingView}
 use Rattle.forest.specs.declared.lasting_view.Memory.{Memory}
 use Rattle.forest.specs.declared.lasting_view.Polled.{Polled}

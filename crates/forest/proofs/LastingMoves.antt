@@ -1,8 +1,6 @@
 -- A step of a call keeps the rule of a table that lasts.
-use Rattle.std.proofs.Common.{◌≡◌, ◌≢◌, ◌<◌, ◌⊎◌, ℕ, false, List, [], ◌∷◌, ◌++◌, None, slice_index, slice_set, inl, inr, ⊎_elim, refl, sym, ◌∙◌, ap, subst}
+use Rattle.std.proofs.Common.{◌≡◌, ◌<◌, ◌⊎◌, ℕ, List, [], ◌∷◌, ◌++◌, None, slice_index, slice_set, inl, inr, ⊎_elim, refl, sym, ◌∙◌, ap, subst}
 use Rattle.std.proofs.lemmas.List.{get_or-set_other}
-use mathlib.Core.Option.{some}
-use lib.ListN.{get_elem?}
 use Rattle.atomic_table.specs.Table.{Me, Allows, keeps}
 use Rattle.histories.specs.Common.{Layout, Word, Row, History, ◌⊳◌, Extends, value, word_after, table_size, place, IsWord, IsRun, IsTold, IsFillOfNode, IsTakenNode}
 use Rattle.arena.proofs.Lemmas.{ends_self}
@@ -10,14 +8,15 @@ use Rattle.histories.proofs.Lemmas.{lawful_row}
 use Rattle.planting.specs.Plantings.{PlantingView}
 use Rattle.ordered_map.specs.Runs.{IsMapRun}
 use Rattle.touching.specs.Steps.{IsMapStep}
-use Rattle.resting.specs.Records.{Record, record_of, the_node}
+use Rattle.resting.specs.Records.{record_of, the_node}
 use Rattle.resting.specs.Rests.{IsRowSince}
 use Rattle.slots.specs.Held.{IsHeld}
 use Rattle.slots.specs.Lasting.{IsOwnRecord, IsUntaken, Lasting, table_place}
 use Rattle.slots.specs.Window.{IsHeldStep, IsWindow}
 use Rattle.slots.proofs.Lemmas.{counts_rows, counts_stores, empty_apart, seen_rows, steps}
 use Rattle.forest.specs.TableRule.{Made, Owns, history_of, past_of, row, seated_pass}
-use Rattle.forest.specs.LastingRule.{AreHeldOrGone, IsGone, MayStepOn, Present, RememberWell, RemembersWell, TableLasts, plot_in, present}
+use Rattle.forest.specs.LastingMemory.{AreHeldOrGone, IsGone, Present, RememberWell, RemembersWell, present}
+use Rattle.forest.specs.LastingRule.{MayStepOn, TableLasts, plot_in}
 use Rattle.forest.specs.declared.lasting_view.LastingView.{LastingView}
 use Rattle.forest.specs.declared.lasting_view.Memory.{Memory}
 use Rattle.forest.specs.declared.rule.CallStep.{CallStep}

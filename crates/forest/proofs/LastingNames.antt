@@ -1,7 +1,7 @@
 -- A pass passes over names, nodes and SCX-records, in a table that lasts.
-use Rattle.std.proofs.Common.{◌≡◌, ◌≢◌, ◌+◌, ◌<◌, ◌≤◌, ◌⊎◌, ℕ, zero, suc, false, List, [], ◌∷◌, Some, None, slice_index, inl, inr, ⊎_elim, refl, sym, ◌∙◌, ap, subst, arith}
+use Rattle.std.proofs.Common.{◌≡◌, ◌≢◌, ◌+◌, ◌<◌, ◌≤◌, ◌⊎◌, ℕ, zero, suc, false, List, ◌∷◌, inl, inr, ⊎_elim, refl, sym, ◌∙◌, ap, subst, arith}
 use native.Mathlib.Decide.{dec_lt}
-use Rattle.histories.specs.Common.{Layout, Row, Kind, Fill, Freeze, Update, Abort, Settled, Head, State, Seen, Word, History, ◌⊳◌, Extends, node, scx, state, opening_nodes, IsOwnNode, IsOwnScx, IsTakenNode, IsTakenScx, IsUnmentioned, Lawful, IsRun}
+use Rattle.histories.specs.Common.{Layout, Row, Kind, Fill, Freeze, Update, Abort, Settled, Head, State, Seen, Word, History, ◌⊳◌, Extends, node, scx, state, IsOwnNode, IsOwnScx, IsTakenNode, IsTakenScx, IsUnmentioned, Lawful, IsRun}
 use Rattle.arena.specs.declared.word.ScxWord.TheVariants.{Plan}
 use Rattle.arena.specs.Shape.{Shaped}
 use Rattle.arena.proofs.Lemmas.{fill_takes_node, fill_takes_scx, taken_node_more, taken_scx_more}
@@ -21,7 +21,9 @@ use Rattle.slots.specs.Passing.{row_over}
 use Rattle.slots.specs.Window.{HasPassedOver}
 use Rattle.slots.proofs.Lemmas.{counts_rows, never_stood, node_rests, passes_node, passes_scx, scx_rests, seen_rows}
 use Rattle.forest.specs.TableRule.{Owns, history_of}
-use Rattle.forest.specs.LastingRule.{IsDealt, past_nodes, past_scxs, plot_in, scx_rows}
+use Rattle.forest.specs.LastingMemory.{IsDealt}
+use Rattle.forest.specs.LastingNames.{past_nodes, past_scxs, scx_rows}
+use Rattle.forest.specs.LastingRule.{plot_in}
 use Rattle.forest.specs.declared.lasting_view.Memory.{Memory}
 use Rattle.forest.specs.declared.view.SeatedPass.{SeatedPass}
 use Rattle.forest.proofs.Moves.{owns_more}

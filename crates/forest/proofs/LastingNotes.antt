@@ -1,30 +1,30 @@
 -- What a pass has noted of names goes on once all have rested.
-use Rattle.std.proofs.Common.{◌≡◌, ◌≢◌, ◌<◌, ◌⊎◌, ℕ, true, false, List, [], ◌∷◌, inl, inr, refl, sym, ◌∙◌, ap, subst}
-use mathlib.Core.Option.{some}
-use lib.ListN.{get_elem?}
+use Rattle.std.proofs.Common.{◌≡◌, ◌≢◌, ◌<◌, ◌⊎◌, ℕ, true, List, [], ◌∷◌, inl, inr, refl, sym, ap, subst}
 use native.Mathlib.Decide.{ℕ_discrete}
-use Rattle.atomic_table.specs.Table.{State, Me, Allows, keeps}
+use Rattle.atomic_table.specs.Table.{Me, Allows, keeps}
 use Rattle.histories.specs.Common.{Layout, Row, History, Extends, Lawful, log, is_final}
 use Rattle.arena.proofs.Lemmas.{ends_trans}
 use Rattle.planting.specs.Plantings.{PlantingView}
 use Rattle.ordered_map.specs.Runs.{IsMapRun}
 use Rattle.resting.specs.Dead.{IsDead, IsMarkedNode, IsMarkedRecord, IsRemovedNode}
-use Rattle.resting.specs.Periods.{IsPeriod, IsRightNote, Note, dead_by, marked_or_dead, out_of_reach}
+use Rattle.resting.specs.Periods.{IsPeriod, IsRightNote, dead_by, marked_or_dead, out_of_reach}
 use Rattle.resting.specs.Records.{Record, the_node, the_scx}
 use Rattle.resting.specs.Rests.{AreSince, HaveRestedAt}
 use Rattle.slots.specs.Lasting.{Lasting}
 use Rattle.forest.specs.Passes.{Each}
 use Rattle.forest.specs.TableRule.{history_of}
-use Rattle.forest.specs.LastingRule.{HasRestedSince, IsBefore, IsGoneRecord, IsIn, IsNoteSo, IsPollSo, LearnsWith, Present, RemembersWell, TableLasts, further, further_all, memory_noted, present, record_at, rested_poll}
+use Rattle.forest.specs.LastingMemory.{IsGoneRecord, IsNoteSo, IsPollSo, Present, RemembersWell, record_at}
+use Rattle.forest.specs.LastingNotes.{HasRestedSince, IsBefore, IsIn, further, further_all, memory_noted, rested_poll}
+use Rattle.forest.specs.LastingRule.{LearnsWith, TableLasts}
 use Rattle.forest.specs.declared.lasting_view.LastingView.{LastingView}
 use Rattle.forest.specs.declared.lasting_view.Memory.{Memory}
 use Rattle.forest.specs.declared.lasting_view.Noted.{Noted}
 use Rattle.forest.specs.declared.lasting_view.NoteView.{NoteView}
-use Rattle.forest.specs.declared.lasting_view.NoteView.TheVariants.{MarkedOrDead, DeadBy, OutOfReach}
+use Rattle.forest.specs.declared.lasting_view.NoteView.TheVariants.{MarkedOrDead, DeadBy, OutOfReach, DoneWith}
 use Rattle.forest.specs.declared.rule.Plot.{Plot}
 use Rattle.forest.specs.declared.view.SeatedPass.{SeatedPass}
 use Rattle.forest.proofs.LastingKept.{StaysUnborn}
-use Rattle.forest.proofs.LastingGhosts.{in_each, noted, seen_by}
+use Rattle.forest.proofs.LastingGhosts.{in_each, noted}
 use Rattle.forest.proofs.LastingSeats.{aware, learnt, now, own, well}
 
 -- what is known of what is marked, and of periods
@@ -59,6 +59,7 @@ module _ (lay : Layout) (planting : PlantingView) (known : Periods lay) (o : ℕ
         go (inr d) = (dead (inr d.0), d.1)
     note_goes_on x (DeadBy old) after y = (known.second o x a.run a.last (history_of planting old) snapshot run is_pass rested since after y.0, y.1)
     note_goes_on x OutOfReach after y = y
+    note_goes_on x (DoneWith j) after y = y
 
     pub notes_go_on : (notes chosen : List Noted) → Each (λ n. IsNoteSo lay planting o a (record_at n.name) n.note) notes → Each (λ n. IsIn n notes × IsBefore planting snapshot n.note) chosen → Each (λ n. IsNoteSo lay planting o a (record_at n.name) n.note) (further_all rows chosen notes)
     notes_go_on notes [] so chosen = so

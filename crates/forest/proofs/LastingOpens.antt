@@ -1,22 +1,21 @@
 -- The rule of a table that lasts holds of the words and the seat with which it opens.
-use Rattle.std.proofs.Common.{◌≡◌, ◌≢◌, ◌+◌, ◌-◌, ◌*◌, ◌%◌, ◌<◌, ◌≤◌, ◌⊎◌, ◌++◌, ℕ, zero, suc, List, [], ◌∷◌, Some, None, length, slice_index, inl, inr, ⊎_elim, refl, sym, ◌∙◌, ap, subst, arith}
+use Rattle.std.proofs.Common.{◌≡◌, ◌+◌, ◌-◌, ◌%◌, ◌<◌, ◌≤◌, ◌++◌, ℕ, zero, suc, List, [], ◌∷◌, Some, ⊎_elim, refl, sym, ◌∙◌, ap, subst, arith}
 use mathlib.Core.Option.{some, some-injective, some-ne-none}
 use lib.ListN.{get_elem?}
-use native.Mathlib.Decide.{dec_lt}
 use Rattle.atomic_table.specs.Table.{opening}
-use Rattle.histories.specs.Common.{Layout, Row, Word, History, Opened, first_node, first_scx, table_size, place, IsWord, IsTakenNode, value, IsRun}
+use Rattle.histories.specs.Common.{Layout, History, Opened, first_node, first_scx, IsTakenNode}
 use Rattle.planting.specs.Plantings.{PlantingView, opening_for}
 use Rattle.resting.specs.Records.{Record, the_node, the_scx}
-use Rattle.slots.specs.Counts.{CountsRests, no_rests}
+use Rattle.slots.specs.Counts.{no_rests}
 use Rattle.slots.specs.Held.{Held, IsHeld, first_held}
 use Rattle.slots.specs.Lasting.{IsOwnName, IsOwnRecord, IsUntaken, Lasting, slot_of}
-use Rattle.slots.specs.Window.{IsWindow}
 use Rattle.slots.proofs.Lemmas.{counts_open, first_names, first_nodes_held, first_scx_held, node_lap, opens, scx_lap}
 use Rattle.forest.specs.Passes.{Each}
-use Rattle.forest.specs.TableRule.{Absent, Owns, history_of, new_passes}
-use Rattle.forest.specs.LastingRule.{AreHeldOrGone, IsDealt, IsHeldName, OpensLasting, Present, RememberWell, RemembersWell, TableLasts, first_memories, first_memory, first_view, nodes_from, plot_in, present, scx_from}
+use Rattle.forest.specs.TableRule.{Absent, Owns, new_passes}
+use Rattle.forest.specs.LastingMemory.{IsDealt, IsHeldName, Present, RememberWell, RemembersWell, present}
+use Rattle.forest.specs.LastingRule.{TableLasts, plot_in}
+use Rattle.forest.specs.LastingViews.{OpensLasting, first_memories, first_memory, first_view, nodes_from, scx_from}
 use Rattle.forest.specs.declared.lasting_view.LastingView.{LastingView}
-use Rattle.forest.specs.declared.lasting_view.Memory.{Memory}
 use Rattle.forest.specs.declared.lasting_view.RecordNo.{RecordNo}
 use Rattle.forest.specs.declared.lasting_view.RecordNo.TheVariants.{Node, Scx}
 use Rattle.forest.specs.declared.rule.Plot.{Plot}

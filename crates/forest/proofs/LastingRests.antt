@@ -1,10 +1,8 @@
 -- A rest, and to be away, keep the rule of a table that lasts.
-use Rattle.std.proofs.Common.{◌≡◌, ◌≢◌, ◌+◌, ◌*◌, ◌<◌, ◌⊎◌, ℕ, suc, Bool, true, false, true≢false, eq-eqb, ne_eqb, List, [], ◌∷◌, None, slice_index, slice_set, inl, inr, ⊎_elim, refl, sym, ◌∙◌, ap, subst, arith}
+use Rattle.std.proofs.Common.{◌≡◌, ◌≢◌, ◌+◌, ◌*◌, ◌<◌, ℕ, suc, true≢false, eq-eqb, ne_eqb, List, [], ◌∷◌, None, slice_index, slice_set, inl, inr, ⊎_elim, refl, sym, ◌∙◌, ap, subst, arith}
 use Rattle.std.proofs.lemmas.List.{get_or-set_other}
-use mathlib.Core.Option.{some}
-use lib.ListN.{get_elem?}
 use Rattle.atomic_table.specs.Table.{Me, Allows, keeps}
-use Rattle.histories.specs.Common.{Layout, Word, History, Extends, place, table_size, IsWord, IsTakenNode}
+use Rattle.histories.specs.Common.{Layout, Word, History, Extends, place, IsWord, IsTakenNode}
 use Rattle.arena.proofs.Lemmas.{ends_self}
 use Rattle.planting.specs.Plantings.{PlantingView}
 use Rattle.prims.specs.Moments.{AreFinished}
@@ -17,12 +15,14 @@ use Rattle.slots.specs.Lasting.{Lasting}
 use Rattle.slots.specs.Window.{IsWindow}
 use Rattle.slots.proofs.Lemmas.{leaves, place_inside, rest_other, rest_same, rests_more, seen_leaves, seen_rests}
 use Rattle.forest.specs.TableRule.{Owns, history_of, past_of}
-use Rattle.forest.specs.LastingRule.{AreHeldOrGone, LearnsWith, Present, RememberWell, RemembersNames, RemembersWell, TableLasts, memory_away, memory_rested, plot_in, present}
+use Rattle.forest.specs.LastingMemory.{AreHeldOrGone, Present, RememberWell, RemembersNames, RemembersWell, present}
+use Rattle.forest.specs.LastingNotes.{memory_away, memory_rested}
+use Rattle.forest.specs.LastingRule.{LearnsWith, TableLasts, plot_in}
 use Rattle.forest.specs.declared.lasting_view.LastingView.{LastingView}
 use Rattle.forest.specs.declared.lasting_view.Memory.{Memory}
 use Rattle.forest.specs.declared.view.SeatedPass.{SeatedPass}
 use Rattle.forest.proofs.LastingKept.{Later, StaysUnborn, gone_kept, names_kept, remember_kept, remembers_kept, spared, views_kept}
-use Rattle.forest.proofs.LastingSeats.{apart, aware, learnt, now, over, own, owns_aware, well}
+use Rattle.forest.proofs.LastingSeats.{apart, aware, learnt, now, over, owns_aware, well}
 
 -- the moments of the rests move on for a pass that rests now
 pub moves_now : (t : Lasting) (h : History) (last : ℕ → History) (o : ℕ) → HaveRestedAt t.lay h last → HaveMovedOn t.lay h last (with_rest last o h)

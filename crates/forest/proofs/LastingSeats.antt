@@ -1,17 +1,21 @@
 -- What is known of the one pass of a seat, under the rule of a table that lasts.
-use Rattle.std.proofs.Common.{◌≡◌, ◌≢◌, ◌<◌, ℕ, zero, suc, List, [], ◌∷◌, ◌++◌, slice_index, slice_set, inl, inr, refl, sym, ◌∙◌, ap, subst}
+use Rattle.std.proofs.Common.{◌≡◌, ◌≢◌, ℕ, zero, suc, List, [], ◌∷◌, ◌++◌, slice_index, slice_set, inr, refl, sym, ◌∙◌, ap, subst, ◌<◌}
 use mathlib.Core.Option.{some}
 use lib.ListN.{get_elem?}
-use Rattle.atomic_table.specs.Table.{State, Me, Allows, keeps}
-use Rattle.histories.specs.Common.{Layout, Row, History, ◌⊳◌, Extends, Lawful, IsRun}
+use Rattle.atomic_table.specs.Table.{State}
+use Rattle.histories.specs.Common.{Layout, Row, History, Extends, Lawful, IsRun, Remaining}
 use Rattle.arena.proofs.Lemmas.{ends_self}
 use Rattle.planting.specs.Plantings.{PlantingView}
+use Rattle.histories.proofs.Lemmas.{lawful_tail}
 use Rattle.prims.specs.Moments.{AreFinished}
+use Rattle.prims.specs.Shares.{IsShare}
+use Rattle.prims.proofs.Lemmas.{share_by_others}
 use Rattle.resting.specs.Rests.{IsAway}
 use Rattle.resting.proofs.Lemmas.{away_more, away_now, rested_away}
 use Rattle.slots.specs.Lasting.{Lasting}
 use Rattle.forest.specs.TableRule.{ByOthers, Owns, history_of, past_of, seated_pass}
-use Rattle.forest.specs.LastingRule.{HasLearnt, Present, RememberWell, RemembersWell, TableLasts, plot_in, present}
+use Rattle.forest.specs.LastingMemory.{Present, RememberWell, RemembersWell, present}
+use Rattle.forest.specs.LastingRule.{HasLearnt, TableLasts, plot_in}
 use Rattle.forest.specs.declared.lasting_view.LastingView.{LastingView}
 use Rattle.forest.specs.declared.lasting_view.Memory.{Memory}
 use Rattle.forest.specs.declared.rule.Plot.{Plot}
@@ -32,6 +36,11 @@ pub finished_behind : (lay : Layout) (planting : PlantingView) (o : ℕ) (others
 finished_behind lay planting o others known l by over =
     let away = away_behind lay planting o others known by over in
     (rested_away lay (history_of planting (others ++ known)) o (history_of planting known) (history_of planting (others ++ known)) l away (ends_self (history_of planting (others ++ known))) away.within).over
+
+-- rows of others leave a share as it is
+pub share_behind : (lay : Layout) (planting : PlantingView) (o : ℕ) (left : Remaining) (n s : ℕ) (others known : List Row) → o < lay.passes → Lawful lay (history_of planting (others ++ known)) → ByOthers o others → IsShare lay (history_of planting known) o left n s → IsShare lay (history_of planting (others ++ known)) o left n s
+share_behind lay planting o left n s [] known is_pass l by x = x
+share_behind lay planting o left n s (r ∷ rs) known is_pass l by x = share_by_others lay (history_of planting (rs ++ known)) r o left n s l is_pass by.0 (share_behind lay planting o left n s rs known is_pass (lawful_tail lay (history_of planting (rs ++ known)) r l) by.1 x)
 
 module _ (allows : Layout → History → ℕ → Type 0) (t : Lasting) (planting : PlantingView) (s : State ℕ LastingView) (kept : TableLasts allows t planting s) (id : ℕ) (v : LastingView) (fits : get_elem? s.views id ≡ some v) (p : SeatedPass) (m : Memory) (one : v.passes ≡ p ∷ []) (recalled : v.memories ≡ m ∷ []) where
   -- where the table is
@@ -79,3 +88,9 @@ module _ (allows : Layout → History → ℕ → Type 0) (t : Lasting) (plantin
       further : (others : List Row) → Extends (history_of planting (others ++ p.known)) (history_of planting p.known)
       further [] = ends_self (history_of planting p.known)
       further (r ∷ rs) = inr (further rs)
+
+  -- its share is as it knows
+  pub share_now : (left : Remaining) → p.number.0 < t.lay.passes → IsShare p.layout (past_of p []) p.number.0 left left.next_node left.next_scx → IsShare t.lay (history_of planting kept.rows) p.number.0 left left.next_node left.next_scx
+  share_now left is_pass x = subst (λ l. IsShare t.lay (history_of planting l) p.number.0 left left.next_node left.next_scx) (sym own.2.1)
+      (share_behind t.lay planting p.number.0 left left.next_node left.next_scx own.2.0 p.known is_pass (subst (λ l. Lawful t.lay (history_of planting l)) own.2.1 kept.sound.lawful) own.2.2
+      (subst (λ (g : Plot). IsShare g.layout (history_of g.planting p.known) p.number.0 left left.next_node left.next_scx) own.1 x))

@@ -1,25 +1,30 @@
 -- To let a slot go, and to store 0 in one that holds nothing, keep the rule of a table that lasts.
-use Rattle.std.proofs.Common.{◌≡◌, ◌≢◌, ◌<◌, ◌⊎◌, ℕ, Bool, true, false, true≢false, eq-eqb, List, [], ◌∷◌, Option, Some, None, if◌then◌else◌, slice_index, slice_set, inl, inr, ⊎_elim, refl, sym, ◌∙◌, ap, subst, arith}
+use Rattle.std.proofs.Common.{◌≡◌, ◌≢◌, ◌<◌, ◌⊎◌, ℕ, suc, Bool, true, false, true≢false, eq-eqb, List, [], ◌∷◌, Some, None, if◌then◌else◌, slice_index, slice_set, inl, inr, ⊎_elim, refl, sym, ◌∙◌, ap, subst, arith}
 use Rattle.std.proofs.lemmas.List.{get_or-set_same, get_or-set_other}
 use mathlib.Core.Option.{some}
 use lib.ListN.{get_elem?}
 use native.Mathlib.Decide.{ℕ_discrete}
-use Rattle.atomic_table.specs.Table.{State, Me, Allows, keeps}
-use Rattle.histories.specs.Common.{Layout, Row, Word, History, Extends, place, IsWord, IsTakenNode}
+use Rattle.atomic_table.specs.Table.{Me, Allows, keeps, State}
+use Rattle.histories.specs.Common.{Extends, History, IsWord, Layout, Remaining, Word, place, IsTakenNode}
 use Rattle.arena.proofs.Lemmas.{ends_self}
 use Rattle.histories.proofs.Lemmas.{one_node_owner, one_scx_owner}
 use Rattle.planting.specs.Plantings.{PlantingView}
+use Rattle.prims.specs.Shares.{IsShare}
 use Rattle.touching.proofs.Lemmas.{taken_scx_since}
 use Rattle.resting.specs.Records.{Record, record_of, the_node, the_scx}
+use Rattle.resting.specs.Reach.{IsOutOfReach}
 use Rattle.resting.proofs.Lemmas.{taken_node_since}
 use Rattle.slots.specs.Counts.{CountsRests}
 use Rattle.slots.specs.Held.{Held, IsHeld, same_record, with_slot}
-use Rattle.slots.specs.Lasting.{IsFirstRecord, IsOwnName, IsOwnRecord, IsUntaken, Lasting, slot_of}
+use Rattle.slots.specs.Lasting.{IsFirstRecord, IsOwnRecord, IsUntaken, Lasting, slot_of}
 use Rattle.slots.specs.Window.{IsWindow}
 use Rattle.slots.proofs.Lemmas.{cleans, counts_stores, lets_go, place_inside, record_discrete, with_other, with_same}
 use Rattle.forest.specs.Passes.{Each}
 use Rattle.forest.specs.TableRule.{history_of, past_of}
-use Rattle.forest.specs.LastingRule.{AreHeldOrGone, IsEmptySlot, IsGone, IsGoneRecord, IsHeldName, IsIn, IsNoteSo, IsZeroWord, LearnsWith, Present, RemembersNames, RemembersWell, TableLasts, WasTaken, memory_cleared, memory_let_go, noted_as, present, record_at, slot_number, without}
+use Rattle.forest.specs.LastingMemory.{AreHeldOrGone, IsDealt, IsEmptySlot, IsGone, IsGoneRecord, IsHeldName, IsNoteSo, IsZeroWord, Present, RemembersNames, RemembersWell, present, record_at}
+use Rattle.forest.specs.LastingNotes.{IsIn, noted_as}
+use Rattle.forest.specs.LastingRule.{LearnsWith, TableLasts}
+use Rattle.forest.specs.LastingSlots.{IsLastDealt, IsLeft, WasTaken, memory_cleared, memory_given_back, memory_let_go, memory_without, slot_number, without}
 use Rattle.forest.specs.declared.lasting_view.LastingView.{LastingView}
 use Rattle.forest.specs.declared.lasting_view.Memory.{Memory}
 use Rattle.forest.specs.declared.lasting_view.NoteView.TheVariants.{OutOfReach}
@@ -27,9 +32,9 @@ use Rattle.forest.specs.declared.lasting_view.RecordNo.{RecordNo}
 use Rattle.forest.specs.declared.lasting_view.RecordNo.TheVariants.{Node, Scx}
 use Rattle.forest.specs.declared.rule.Plot.{Plot}
 use Rattle.forest.specs.declared.view.SeatedPass.{SeatedPass}
-use Rattle.forest.proofs.LastingKept.{Later, Spares, StaysUnborn, each_kept, note_kept, poll_kept, remember_kept, spared}
-use Rattle.forest.proofs.LastingGhosts.{as_loaded, goes_on, in_each, later_moments, moments_stay}
-use Rattle.forest.proofs.LastingSeats.{aware, behind_known, learnt, now, own, well}
+use Rattle.forest.proofs.LastingKept.{Later, Spares, StaysUnborn, each_kept, note_kept, poll_kept}
+use Rattle.forest.proofs.LastingGhosts.{as_loaded, goes_on, in_each, later_moments, moments_stay, seen_by}
+use Rattle.forest.proofs.LastingSeats.{aware, behind_known, learnt, now, own, share_now, well}
 
 -- Records
 
@@ -65,6 +70,20 @@ each_without P Q x f (n ∷ ns) y = go (same_record (record_at n) x) refl (each_
     go true e z = z
     go false e z = (f n (λ is. true≢false (sym (same_self x) ∙ ap (λ k. same_record k x) (sym is) ∙ e)) y.0, z)
 
+-- as many are dealt as before
+same_dealt : (t : Lasting) (m : Memory) (name : RecordNo) (y : Record) → IsDealt (memory_let_go t m name) y → IsDealt m y
+same_dealt t m name (the_node n) d = d
+same_dealt t m name (the_scx s) d = d
+
+dealt_same : (t : Lasting) (m : Memory) (name : RecordNo) (y : Record) → IsDealt m y → IsDealt (memory_let_go t m name) y
+dealt_same t m name (the_node n) d = d
+dealt_same t m name (the_scx s) d = d
+
+-- what is left of a share, nobody has taken
+left_untaken : (lay : Layout) (h : History) (o : ℕ) (left : Remaining) (x : Record) → IsOwnRecord lay o x → IsLeft left x → IsShare lay h o left left.next_node left.next_scx → IsUntaken lay h x
+left_untaken lay h o left (the_node n) own is_left share = ((let a = own.from in omega (arith, a)), share.untaken_nodes n is_left)
+left_untaken lay h o left (the_scx s) own is_left share = ((λ e. let a = own.from in omega (arith, a, e)), share.untaken s is_left)
+
 -- What slots hold once one of them holds nothing
 
 module _ (t : Lasting) (held : Held) (x : Record) (is : IsHeld t held x) where
@@ -85,25 +104,116 @@ module _ (t : Lasting) (held : Held) (x : Record) (is : IsHeld t held x) where
       go (yes e) = ap (with_slot held (slot_of t x) None) e ∙ with_same held (slot_of t x) None
       go (no d) = with_other held (slot_of t x) s None d ∙ none
 
+-- The slot of the name x, which is held, holds nothing from now on; names up to these two are dealt.
+module _ (allows : Layout → History → ℕ → Type 0) (t : Lasting) (planting : PlantingView) (stays : StaysUnborn t.lay) (s : State ℕ LastingView) (kept : TableLasts allows t planting s) (id : ℕ) (v : LastingView) (fits : get_elem? s.views id ≡ some v) (p : SeatedPass) (m : Memory) (one : v.passes ≡ p ∷ []) (recalled : v.memories ≡ m ∷ []) (at : ℕ) (name : RecordNo) (nodes_to scx_to : ℕ)
+    (mine : IsHeldName t p.number.0 (now allows t planting s kept id v fits p m one recalled) name)
+    (reason : IsUntaken t.lay (history_of planting kept.rows) (record_at name) ⊎ IsOutOfReach t.lay (history_of planting kept.rows) kept.last (record_at name))
+    (gone_then : (n : ℕ) → IsTakenNode (history_of planting kept.rows) n → the_node n ≡ record_at name → IsGone t.lay (history_of planting kept.rows) kept.last n)
+    (dealt_then : (y : Record) → IsOwnRecord t.lay p.number.0 y → IsDealt (memory_without t m name nodes_to scx_to) y → IsUntaken t.lay (history_of planting kept.rows) y → (¬ (y ≡ record_at name)) × IsDealt m y)
+    (undealt_then : (y : Record) → ¬ IsDealt (memory_without t m name nodes_to scx_to) y → (y ≡ record_at name) ⊎ (¬ IsDealt m y)) where
+  abbrev o : ℕ
+  o = p.number.0
+
+  abbrev x : Record
+  x = record_at name
+
+  abbrev h : History
+  h = history_of planting kept.rows
+
+  abbrev before : Present
+  before = now allows t planting s kept id v fits p m one recalled
+
+  recalls : RemembersWell t planting before p.number.0 m
+  recalls = well allows t planting s kept id v fits p m one recalled
+
+  abbrev held : Held
+  held = with_slot kept.held (slot_of t (record_at name)) None
+
+  window : IsWindow t s.words h kept.last held
+  window = lets_go t s.words h kept.last kept.held kept.window x mine.1 (own_not_first t.lay o x mine.0.0) reason
+
+  abbrev there : Present
+  there = present s.words h kept.last held kept.tally
+
+  later : Later t before there
+  later = later_moments t before kept.last held (moments_stay t h kept.last kept.window.rested) window
+
+  gone : AreHeldOrGone t there
+  gone n z = go (record_discrete (the_node n) x) (kept.gone n z)
+    where
+      go : Dec (the_node n ≡ x) → IsHeld t kept.held (the_node n) ⊎ IsGone t.lay h kept.last n → IsHeld t held (the_node n) ⊎ IsGone t.lay h kept.last n
+      go d (inr g) = inr g
+      go (yes e) (inl is) = inr (gone_then n z e)
+      go (no d) (inl is) = inl (still_held t kept.held x mine.1 (the_node n) d is)
+
+  empty_kept : (q : ℕ) (k : RecordNo) → IsEmptySlot t q before k → IsEmptySlot t q there k
+  empty_kept q k e = (e.0, still_none t kept.held x mine.1 (record_at k) e.1)
+
+  zeros_kept : (q : ℕ) (u : Word) → IsZeroWord t q before u → IsZeroWord t q there u
+  zeros_kept q u e = record { is_word = e.is_word; own = e.own; none = still_none t kept.held x mine.1 (record_of u) e.none; zero = e.zero }
+
+  not_itself : ¬ IsHeld t held x
+  not_itself is = let q : None ≡ Some x = sym (with_same kept.held (slot_of t x) None) ∙ is in cc
+
+  names : RemembersNames t planting there o (memory_without t m name nodes_to scx_to)
+  names = record {
+    dealt = λ y its_own d free. let k = dealt_then y its_own d free in still_held t kept.held x mine.1 y k.0 (recalls.names.dealt y its_own k.1 free);
+    later = λ y its_own d is. ⊎_elim (λ e. not_itself (subst (IsHeld t held) e is)) (λ k. never_held t kept.held x mine.1 y (recalls.names.later y its_own k) is) (undealt_then y d);
+    notes = each_kept _ _ (λ n. note_kept t planting before there later stays o (record_at n.name) n.note) m.notes recalls.names.notes;
+    polls = each_kept _ _ (poll_kept t planting before there later stays) m.polls recalls.names.polls;
+    holds = each_without (IsHeldName t o before) (IsHeldName t o there) x (λ n d e. (e.0, still_held t kept.held x mine.1 (record_at n) d e.1)) m.holds recalls.names.holds;
+    empty = ((subst (IsOwnRecord t.table o) (sym (slot_number_is t name)) mine.0.1, ap held (slot_number_is t name) ∙ with_same kept.held (slot_of t x) None), each_kept _ _ (empty_kept o) m.empty recalls.names.empty);
+    zeros = each_kept _ _ (zeros_kept o) m.zeros recalls.names.zeros;
+  }
+
+  spares : (q : ℕ) → q ≢ p.number.0 → Spares t planting before there later stays q
+  spares q d = record {
+    held = λ y its_own is. still_held t kept.held x mine.1 y (λ e. d (one_record_owner t.lay q o x (subst (IsOwnRecord t.lay q) e its_own) mine.0.0)) is;
+    free = λ y its_own not. never_held t kept.held x mine.1 y not;
+    empty = empty_kept q;
+    zeros = zeros_kept q;
+  }
+
+  pub let_go_then : TableLasts allows t planting (seen_by allows t planting stays s kept id v fits p m one recalled at kept.rows (memory_without t m name nodes_to scx_to))
+  let_go_then = as_loaded allows t planting stays s kept id v fits p m one recalled at kept.rows (memory_without t m name nodes_to scx_to)
+      (goes_on allows t planting stays s kept id v fits p m one recalled at s.words kept.rows kept.last held (memory_without t m name nodes_to scx_to) kept.sound window kept.counts later (λ q d z. refl) gone
+      record { away = recalls.away; often = recalls.often; rested = recalls.rested; names = names }
+      spares (λ j d ps y. y))
+
 module _ (allows : Layout → History → ℕ → Type 0) (t : Lasting) (planting : PlantingView) (stays : StaysUnborn t.lay) (slots id : ℕ) (me : Me ℕ LastingView) (p : SeatedPass) (m : Memory) (one : me.0.passes ≡ p ∷ []) (recalled : me.0.memories ≡ m ∷ []) where
   -- the slot of a name that is out of reach holds nothing from now on, at a load of any word
   pub lasting_lets_go : (at : ℕ) (name : RecordNo) → IsIn name m.holds → IsIn (noted_as name OutOfReach) m.notes → WasTaken (past_of p []) (record_at name) → Allows (TableLasts allows t planting) slots id me at (λ n. n) (λ n w. LearnsWith allows (λ rows. memory_let_go t m name) me.0 w.0 × (w.1 ≡ me.1))
-  lasting_lets_go at name held_name noted_so taken s kept sized fits small = (
-    record { passes = aware allows t planting s kept id me.0 fits p m one recalled ∷ []; memories = memory_let_go t m name ∷ [] },
+  lasting_lets_go at name held_name noted_so taken s kept sized fits small =
+      let o : ℕ = p.number.0 in
+      let x : Record = record_at name in
+      let h : History = history_of planting kept.rows in
+      let before : Present = now allows t planting s kept id me.0 fits p m one recalled in
+      let recalls : RemembersWell t planting before o m = well allows t planting s kept id me.0 fits p m one recalled in
+      let mine : IsHeldName t o before name = in_each (IsHeldName t o before) name m.holds held_name recalls.names.holds in
+      let out : IsNoteSo t.lay planting o before x OutOfReach = in_each (λ n. IsNoteSo t.lay planting o before (record_at n.name) n.note) (noted_as name OutOfReach) m.notes noted_so recalls.names.notes in
+      let was_taken : WasTaken h x = taken_since h (history_of planting p.known) x (behind_known allows t planting s kept id me.0 fits p m one recalled) (subst (λ (g : Plot). WasTaken (history_of g.planting p.known) x) (own allows t planting s kept id me.0 fits p m one recalled).1 taken) in (
+        record { passes = aware allows t planting s kept id me.0 fits p m one recalled ∷ []; memories = memory_let_go t m name ∷ [] },
+        keeps,
+        tt,
+        let_go_then allows t planting stays s kept id me.0 fits p m one recalled at name m.nodes_to m.scx_to mine (inr out.0)
+            (λ n z e. subst (IsGoneRecord t.lay h kept.last) (sym e) out.1)
+            (λ y its_own d free. ((λ e. not_taken t.lay h y free (subst (WasTaken h) (sym e) was_taken)), same_dealt t m name y d))
+            (λ y d. inr (λ z. d (dealt_same t m name y z))),
+        ((kept.rows, learnt allows t planting s kept id me.0 fits p m one recalled, refl), refl),
+      )
+
+  -- The last name that is dealt is given back, if the pass has it left of its share.
+  pub lasting_gives_back : (at : ℕ) (name : RecordNo) (left : Remaining) → p.number.0 < t.lay.passes → IsIn name m.holds → IsLastDealt m (record_at name) → IsShare p.layout (past_of p []) p.number.0 left left.next_node left.next_scx → IsLeft left (record_at name) → Allows (TableLasts allows t planting) slots id me at (λ n. n) (λ n w. LearnsWith allows (λ rows. memory_given_back t m name) me.0 w.0 × (w.1 ≡ me.1))
+  lasting_gives_back at name left is_pass held_name is_last share its_left s kept sized fits small = (
+    record { passes = aware allows t planting s kept id me.0 fits p m one recalled ∷ []; memories = memory_given_back t m name ∷ [] },
     keeps,
     tt,
-    as_loaded allows t planting stays s kept id me.0 fits p m one recalled at kept.rows (memory_let_go t m name)
-        (goes_on allows t planting stays s kept id me.0 fits p m one recalled at s.words kept.rows kept.last held (memory_let_go t m name) kept.sound window kept.counts later (λ q d z. refl) gone
-        record { away = recalls.away; often = recalls.often; rested = recalls.rested; names = names }
-        spares (λ j d ps y. y)),
+    given name its_left is_last mine untaken,
     ((kept.rows, learnt allows t planting s kept id me.0 fits p m one recalled, refl), refl),
   )
     where
       o : ℕ
       o = p.number.0
-
-      x : Record
-      x = record_at name
 
       h : History
       h = history_of planting kept.rows
@@ -111,62 +221,51 @@ module _ (allows : Layout → History → ℕ → Type 0) (t : Lasting) (plantin
       before : Present
       before = now allows t planting s kept id me.0 fits p m one recalled
 
-      recalls : RemembersWell t planting before o m
-      recalls = well allows t planting s kept id me.0 fits p m one recalled
-
       mine : IsHeldName t o before name
-      mine = in_each (IsHeldName t o before) name m.holds held_name recalls.names.holds
+      mine = in_each (IsHeldName t o before) name m.holds held_name (well allows t planting s kept id me.0 fits p m one recalled).names.holds
 
-      out : IsNoteSo t.lay planting o before x OutOfReach
-      out = in_each (λ n. IsNoteSo t.lay planting o before (record_at n.name) n.note) (noted_as name OutOfReach) m.notes noted_so recalls.names.notes
+      untaken : IsUntaken t.lay h (record_at name)
+      untaken = left_untaken t.lay h o left (record_at name) mine.0.0 its_left (share_now allows t planting s kept id me.0 fits p m one recalled left is_pass share)
 
-      was_taken : WasTaken h x
-      was_taken = taken_since h (history_of planting p.known) x (behind_known allows t planting s kept id me.0 fits p m one recalled) (subst (λ g. WasTaken (history_of g p.known) x) (ap (λ (g : Plot). g.planting) (own allows t planting s kept id me.0 fits p m one recalled).1) taken)
-
-      held : Held
-      held = with_slot kept.held (slot_of t x) None
-
-      window : IsWindow t s.words h kept.last held
-      window = lets_go t s.words h kept.last kept.held kept.window x mine.1 (own_not_first t.lay o x mine.0.0) (inr out.0)
-
-      there : Present
-      there = present s.words h kept.last held kept.tally
-
-      later : Later t before there
-      later = later_moments t before kept.last held (moments_stay t h kept.last kept.window.rested) window
-
-      gone : AreHeldOrGone t there
-      gone n z = go (record_discrete (the_node n) x) (kept.gone n z)
+      given : (k : RecordNo) → IsLeft left (record_at k) → IsLastDealt m (record_at k) → IsHeldName t o before k → IsUntaken t.lay h (record_at k) → TableLasts allows t planting (seen_by allows t planting stays s kept id me.0 fits p m one recalled at kept.rows (memory_given_back t m k))
+      given (Node n) is_left last its free = let_go_then allows t planting stays s kept id me.0 fits p m one recalled at (Node n) n.0 m.scx_to its (inl free)
+          (λ i z e. absurd (free.1 (subst (IsTakenNode h) (one_number i n.0 e) z)))
+          (λ y its_own d k. node_dealt n.0 last y d)
+          (λ y d. node_undealt n.0 last y d)
         where
-          go : Dec (the_node n ≡ x) → IsHeld t kept.held (the_node n) ⊎ IsGone t.lay h kept.last n → IsHeld t held (the_node n) ⊎ IsGone t.lay h kept.last n
-          go d (inr g) = inr g
-          go (yes e) (inl is) = inr (subst (IsGoneRecord t.lay h kept.last) (sym e) out.1)
-          go (no d) (inl is) = inl (still_held t kept.held x mine.1 (the_node n) d is)
+          one_number : (i j : ℕ) → the_node i ≡ the_node j → i ≡ j
+          one_number i j e = cc
 
-      empty_kept : (q : ℕ) (k : RecordNo) → IsEmptySlot t q before k → IsEmptySlot t q there k
-      empty_kept q k e = (e.0, still_none t kept.held x mine.1 (record_at k) e.1)
+          node_dealt : (i : ℕ) → m.nodes_to ≡ suc i → (y : Record) → IsDealt (memory_without t m (Node n) i m.scx_to) y → (¬ (y ≡ the_node i)) × IsDealt m y
+          node_dealt i e (the_node j) d = ((λ q. let z : j ≡ i = one_number j i q in omega (arith, z, d)), omega (arith, d, e))
+          node_dealt i e (the_scx j) d = ((λ q. let z : the_scx j ≡ the_node i = q in cc), d)
 
-      zeros_kept : (q : ℕ) (u : Word) → IsZeroWord t q before u → IsZeroWord t q there u
-      zeros_kept q u e = record { is_word = e.is_word; own = e.own; none = still_none t kept.held x mine.1 (record_of u) e.none; zero = e.zero }
+          node_undealt : (i : ℕ) → m.nodes_to ≡ suc i → (y : Record) → ¬ IsDealt (memory_without t m (Node n) i m.scx_to) y → (y ≡ the_node i) ⊎ (¬ IsDealt m y)
+          node_undealt i e (the_node j) d = go (ℕ_discrete j i)
+            where
+              go : Dec (j ≡ i) → (the_node j ≡ the_node i) ⊎ (¬ IsDealt m (the_node j))
+              go (yes q) = inl (ap the_node q)
+              go (no q) = inr (λ z. d (omega (arith, z, e, q)))
+          node_undealt i e (the_scx j) d = inr d
+      given (Scx n) is_left last its free = let_go_then allows t planting stays s kept id me.0 fits p m one recalled at (Scx n) m.nodes_to n.0 its (inl free)
+          (λ i z e. absurd (let q : the_node i ≡ the_scx n.0 = e in cc))
+          (λ y its_own d k. scx_dealt n.0 last y d)
+          (λ y d. scx_undealt n.0 last y d)
+        where
+          one_number : (i j : ℕ) → the_scx i ≡ the_scx j → i ≡ j
+          one_number i j e = cc
 
-      names : RemembersNames t planting there o (memory_let_go t m name)
-      names = record {
-        dealt = λ y its_own d free. still_held t kept.held x mine.1 y (λ e. not_taken t.lay h y free (subst (WasTaken h) (sym e) was_taken)) (recalls.names.dealt y its_own d free);
-        later = λ y its_own d. never_held t kept.held x mine.1 y (recalls.names.later y its_own d);
-        notes = each_kept _ _ (λ n. note_kept t planting before there later stays o (record_at n.name) n.note) m.notes recalls.names.notes;
-        polls = each_kept _ _ (poll_kept t planting before there later stays) m.polls recalls.names.polls;
-        holds = each_without (IsHeldName t o before) (IsHeldName t o there) x (λ n d e. (e.0, still_held t kept.held x mine.1 (record_at n) d e.1)) m.holds recalls.names.holds;
-        empty = ((subst (IsOwnRecord t.table o) (sym (slot_number_is t name)) mine.0.1, ap held (slot_number_is t name) ∙ with_same kept.held (slot_of t x) None), each_kept _ _ (empty_kept o) m.empty recalls.names.empty);
-        zeros = each_kept _ _ (zeros_kept o) m.zeros recalls.names.zeros;
-      }
+          scx_dealt : (i : ℕ) → m.scx_to ≡ suc i → (y : Record) → IsDealt (memory_without t m (Scx n) m.nodes_to i) y → (¬ (y ≡ the_scx i)) × IsDealt m y
+          scx_dealt i e (the_scx j) d = ((λ q. let z : j ≡ i = one_number j i q in omega (arith, z, d)), omega (arith, d, e))
+          scx_dealt i e (the_node j) d = ((λ q. let z : the_node j ≡ the_scx i = q in cc), d)
 
-      spares : (q : ℕ) → q ≢ o → Spares t planting before there later stays q
-      spares q d = record {
-        held = λ y its_own is. still_held t kept.held x mine.1 y (λ e. d (one_record_owner t.lay q o x (subst (IsOwnRecord t.lay q) e its_own) mine.0.0)) is;
-        free = λ y its_own not. never_held t kept.held x mine.1 y not;
-        empty = empty_kept q;
-        zeros = zeros_kept q;
-      }
+          scx_undealt : (i : ℕ) → m.scx_to ≡ suc i → (y : Record) → ¬ IsDealt (memory_without t m (Scx n) m.nodes_to i) y → (y ≡ the_scx i) ⊎ (¬ IsDealt m y)
+          scx_undealt i e (the_scx j) d = go (ℕ_discrete j i)
+            where
+              go : Dec (j ≡ i) → (the_scx j ≡ the_scx i) ⊎ (¬ IsDealt m (the_scx j))
+              go (yes q) = inl (ap the_scx q)
+              go (no q) = inr (λ z. d (omega (arith, z, e, q)))
+          scx_undealt i e (the_node j) d = inr d
 
   -- a word of a slot that holds nothing is stored 0
   pub lasting_clears : (u : Word) (slot : RecordNo) → IsIn slot m.empty → record_at slot ≡ record_of u → IsWord t.table u → Allows (TableLasts allows t planting) slots id me (place t.table u) (λ n. 0) (λ n w. LearnsWith allows (λ rows. memory_cleared m u) me.0 w.0 × (w.1 ≡ me.1))

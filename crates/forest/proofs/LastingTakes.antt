@@ -1,26 +1,26 @@
 -- A pass gives a slot that is clean its next name, under the rule of a table that lasts.
-use Rattle.std.proofs.Common.{◌≡◌, ◌≢◌, ◌+◌, ◌<◌, ◌≤◌, ◌⊎◌, ◌++◌, ℕ, suc, Bool, true, false, true≢false, List, [], ◌∷◌, Option, Some, None, if◌then◌else◌, slice_index, inl, inr, ⊎_elim, refl, sym, ◌∙◌, ap, subst, arith}
+use Rattle.std.proofs.Common.{◌≡◌, ◌≢◌, ◌+◌, ◌<◌, ◌≤◌, ◌⊎◌, ◌++◌, ℕ, suc, Bool, true, false, true≢false, List, [], ◌∷◌, Some, None, if◌then◌else◌, inl, inr, ⊎_elim, refl, sym, ◌∙◌, ap, subst, arith}
 use mathlib.Core.Option.{some}
 use lib.ListN.{get_elem?}
 use native.Mathlib.Decide.{dec_lt}
 use Rattle.atomic_table.specs.Table.{State, Me, Allows, keeps}
-use Rattle.histories.specs.Common.{Layout, Row, Word, History, Extends, opening_nodes, place, IsWord, IsOwnNode, IsOwnScx, IsTakenNode, Lawful, IsRun, Remaining, HasNode, HasScx}
+use Rattle.histories.specs.Common.{Layout, Row, Word, History, IsOwnNode, IsOwnScx, IsTakenNode, IsRun, Remaining, HasNode, HasScx}
 use Rattle.arena.proofs.Lemmas.{ends_self}
-use Rattle.histories.proofs.Lemmas.{lawful_tail}
 use Rattle.planting.specs.Plantings.{PlantingView}
 use Rattle.ordered_map.specs.Paths.{WasInTree}
 use Rattle.prims.specs.Shares.{IsShare}
-use Rattle.prims.proofs.Lemmas.{share_by_others}
 use Rattle.resting.specs.Records.{Record, record_of, the_node, the_scx}
 use Rattle.resting.specs.Rests.{HaveMovedOn}
 use Rattle.slots.specs.Counts.{with_rest}
 use Rattle.slots.specs.Held.{Held, IsHeld, same_record, with_slot}
-use Rattle.slots.specs.Lasting.{IsNameOf, IsOwnName, IsOwnRecord, IsUntaken, Lasting, slot_of}
+use Rattle.slots.specs.Lasting.{IsOwnRecord, IsUntaken, Lasting, slot_of}
 use Rattle.slots.specs.Window.{IsWindow}
 use Rattle.slots.proofs.Lemmas.{none_passed, passes_over, record_discrete, rest_other, rest_same, seen_moves, takes, with_other, with_same}
 use Rattle.forest.specs.Passes.{Each}
-use Rattle.forest.specs.TableRule.{ByOthers, Owns, history_of, past_of, seated_pass}
-use Rattle.forest.specs.LastingRule.{AreHeldOrGone, GoesOnWith, IsDealt, IsEmptySlot, IsGone, IsHeldName, IsZeroWord, MayTake, Present, RemembersNames, RemembersWell, TableLasts, memory_with, memory_with_node, memory_with_scx, node_ahead, past_nodes, past_scxs, plot_in, present, record_at, scx_ahead, without, without_words}
+use Rattle.forest.specs.TableRule.{Owns, history_of, seated_pass}
+use Rattle.forest.specs.LastingMemory.{AreHeldOrGone, IsDealt, IsEmptySlot, IsGone, IsZeroWord, Present, RemembersNames, RemembersWell, present, record_at}
+use Rattle.forest.specs.LastingNames.{MayTake, memory_with, memory_with_node, memory_with_scx, node_ahead, past_nodes, past_scxs, scx_ahead, without_words}
+use Rattle.forest.specs.LastingRule.{GoesOnWith, TableLasts, plot_in}
 use Rattle.forest.specs.declared.lasting_view.LastingView.{LastingView}
 use Rattle.forest.specs.declared.lasting_view.Memory.{Memory}
 use Rattle.forest.specs.declared.lasting_view.RecordNo.{RecordNo}
@@ -30,13 +30,8 @@ use Rattle.forest.proofs.LastingKept.{Later, Spares, StaysUnborn, each_kept, gon
 use Rattle.forest.proofs.LastingGhosts.{as_loaded, goes_on, in_each, seen_by}
 use Rattle.forest.proofs.LastingNames.{GoesOn, IsReady, PassedNodes, PassedScx, passes_all_scx, passes_nodes}
 use Rattle.forest.proofs.LastingRests.{moves_now}
-use Rattle.forest.proofs.LastingSeats.{now, over, own, well}
+use Rattle.forest.proofs.LastingSeats.{now, over, own, share_now, well}
 use Rattle.forest.proofs.LastingSlots.{each_without, one_record_owner, same_self}
-
--- rows of others leave a share as it is
-share_behind : (lay : Layout) (planting : PlantingView) (o : ℕ) (left : Remaining) (n s : ℕ) (others known : List Row) → o < lay.passes → Lawful lay (history_of planting (others ++ known)) → ByOthers o others → IsShare lay (history_of planting known) o left n s → IsShare lay (history_of planting (others ++ known)) o left n s
-share_behind lay planting o left n s [] known is_pass l by x = x
-share_behind lay planting o left n s (r ∷ rs) known is_pass l by x = share_by_others lay (history_of planting (rs ++ known)) r o left n s l is_pass by.0 (share_behind lay planting o left n s rs known is_pass (lawful_tail lay (history_of planting (rs ++ known)) r l) by.1 x)
 
 each_without_words : (P Q : Word → Type 0) (x : Record) → ((w : Word) → ¬ (record_of w ≡ x) → P w → Q w) → (ws : List Word) → Each P ws → Each Q (without_words x ws)
 each_without_words P Q x f [] y = tt
@@ -83,9 +78,7 @@ module _ (allows : Layout → History → ℕ → Type 0) (t : Lasting) (plantin
   is_there = sym recalls.away ∙ may.there
 
   pub its_share : IsShare t.lay (history_of planting kept.rows) p.number.0 left left.next_node left.next_scx
-  its_share = subst (λ l. IsShare t.lay (history_of planting l) p.number.0 left left.next_node left.next_scx) (sym owned.2.1)
-      (share_behind t.lay planting p.number.0 left left.next_node left.next_scx owned.2.0 p.known may.is_pass (subst (λ l. Lawful t.lay (history_of planting l)) owned.2.1 kept.sound.lawful) owned.2.2
-      (subst (λ (g : Plot). IsShare g.layout (history_of g.planting p.known) p.number.0 left left.next_node left.next_scx) owned.1 may.share))
+  its_share = share_now allows t planting s kept id v fits p m one recalled left may.is_pass may.share
 
   pub goes_now : GoesOn allows t planting kept.held kept.last kept.tally s.words kept.owner id p.number.0 owned.0 kept.rows may.is_pass is_there kept.rows
   goes_now = record { sound = kept.sound; within = ends_self (history_of planting kept.rows); rested = kept.window.rested; counts = kept.counts; seen = λ q l n y. y; grows = λ j other ps y. y }

@@ -55,3 +55,7 @@ mod LastingSlots
 mod LastingNames
 mod LastingTakes
 mod LastingOpens
+mod LastingDeals
+mod LastingSees
+mod LastingTrees
+mod LastingFinished

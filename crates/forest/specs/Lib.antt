@@ -31,4 +31,9 @@ pub mod StepKinds
 pub mod Opened
 pub mod OpenInvariant
 pub mod Beginnings
+pub mod LastingMemory
+pub mod LastingNotes
+pub mod LastingSlots
+pub mod LastingNames
 pub mod LastingRule
+pub mod LastingViews

@@ -1,10 +1,16 @@
 //! What keeps the rule of a table that lasts: what its seats may do, and what they learn.
-ghost use Rattle.std.specs.Prelude.{◌≡◌, ◌≢◌, ◌+◌, ◌*◌, ◌<◌, ◌≤◌, ℕ, suc, List, [], ◌∷◌, Some, slice_index};
-ghost use Rattle.atomic_table.specs.Table.{Allows, Me, opening};
+ghost use Rattle.std.specs.Prelude.{◌≡◌, ◌≢◌, false, ◌+◌, ◌*◌, ◌<◌, ◌≤◌, ℕ, suc, List, [], ◌∷◌, Some, slice_index};
+ghost use Rattle.atomic_table.specs.Table.{Allows, Joins, Me, Splits, State, opening};
 ghost use Rattle.arena.specs.declared.layout.Layout.{Layout};
 ghost use Rattle.arena.specs.declared.step.Row.{Row};
+ghost use Rattle.arena.specs.declared.number.NodeNo.{NodeNo};
+ghost use Rattle.arena.specs.declared.number.ScxNo.{ScxNo};
+ghost use Rattle.arena.specs.declared.word.NodeWord.{NodeWord};
 ghost use Rattle.arena.specs.declared.word.Word.{Word};
-ghost use Rattle.arena.specs.History.{History};
+ghost use Rattle.arena.specs.Fills.{IsTakenNode, IsTakenScx};
+ghost use Rattle.arena.specs.ScxRecords.{count, member};
+ghost use Rattle.arena.specs.History.{History, value};
+ghost use Rattle.arena.specs.Words.{info, node};
 ghost use Rattle.arena.specs.Layout.{IsWord, place};
 ghost use Rattle.arena.specs.Machines.{IsRun, IsTold};
 ghost use Rattle.arena.specs.Share.{Remaining};
@@ -12,10 +18,19 @@ ghost use Rattle.histories.specs.Common.{word_after};
 ghost use Rattle.ordered_map.specs.Runs.{IsMapRun};
 ghost use Rattle.planting.specs.Plantings.{PlantingView};
 ghost use Rattle.prims.specs.Moments.{AreFinished};
-ghost use Rattle.resting.specs.Records.{record_of};
+ghost use Rattle.prims.specs.Shares.{IsShare};
+ghost use Rattle.touching.specs.Kinds.{IsInTree};
+ghost use Rattle.resting.specs.Dead.{WasDoneWith};
+ghost use Rattle.resting.specs.Records.{record_of, the_node};
 ghost use Rattle.slots.specs.Counts.{rests_place};
+ghost use Rattle.slots.specs.Held.{IsHeld};
 ghost use Rattle.slots.specs.Lasting.{Lasting, table_place};
-ghost use Rattle.forest.specs.LastingRule.{GoesOnWith, HasRestedSince, IsBefore, IsIn, LearnsWith, MayStepOn, MayTake, OpensLasting, TableLasts, WasTaken, first_view, memory_away, memory_cleared, memory_let_go, memory_looked, memory_noted, memory_polled, memory_rested, memory_with_node, memory_with_scx, node_ahead, noted_as, past_nodes, past_scxs, record_at, scx_ahead};
+ghost use Rattle.forest.specs.LastingMemory.{record_at};
+ghost use Rattle.forest.specs.LastingNames.{MayTake, memory_with_node, memory_with_scx, node_ahead, past_nodes, past_scxs, scx_ahead};
+ghost use Rattle.forest.specs.LastingNotes.{HasRestedSince, IsBefore, IsIn, IsUnused, memory_away, memory_done, memory_looked, memory_looked_at, memory_marked, memory_noted, memory_over, memory_polled, memory_rested, memory_unused, noted_as};
+ghost use Rattle.forest.specs.LastingRule.{GoesOnWith, LearnsWith, MayStepOn, TableLasts};
+ghost use Rattle.forest.specs.LastingSlots.{WasTaken, IsLastDealt, IsLeft, memory_cleared, memory_given_back, memory_let_go};
+ghost use Rattle.forest.specs.LastingViews.{OpensLasting, first_of_view, first_view, joined_view, no_view, rest_of_view};
 ghost use Rattle.forest.specs.Passes.{Each};
 ghost use Rattle.forest.specs.TableRule.{Made, history_of, past_of};
 ghost use Rattle.forest.specs.declared.lasting_view.LastingView.{LastingView};
@@ -101,8 +116,9 @@ pub fn looks_last<S: Shape>()
     notes_hold();
 }
 
-/// A slot whose record is out of reach holds nothing from now on, and its words are stored 0. It
-/// does nothing; a caller learns this from its contract.
+/// A slot whose record is out of reach holds nothing from now on, nor does that of the last name that
+/// is dealt, if it is given back; and the words of such a slot are stored 0. It does nothing; a caller
+/// learns this from its contract.
 pub fn slots_last<S: Shape>()
     ensures lets_go { (t : Lasting)
         (planting : PlantingView) (slots id : ℕ) (me : Me ℕ LastingView) (p : SeatedPass)
@@ -112,6 +128,15 @@ pub fn slots_last<S: Shape>()
         → WasTaken (past_of p []) (record_at name)
         → Allows (TableLasts S.allows t planting) slots id me at (λ n. n)
         (λ n w. LearnsWith S.allows (λ rows. memory_let_go t m name) me.0 w.0 × (w.1 ≡ me.1)) }
+    ensures gives_back { (t : Lasting) (planting : PlantingView) (slots id : ℕ)
+        (me : Me ℕ LastingView) (p : SeatedPass) (m : Memory) (at : ℕ) (name : RecordNo)
+        (left : Remaining) → me.0.passes ≡ p ∷ [] → me.0.memories ≡ m ∷ []
+        → p.number.0 < t.lay.passes → IsIn name m.holds → IsLastDealt m (record_at name)
+        → IsShare p.layout (past_of p []) p.number.0 left left.next_node left.next_scx
+        → IsLeft left (record_at name)
+        → Allows (TableLasts S.allows t planting) slots id me at (λ n. n)
+        (λ n w. LearnsWith S.allows (λ rows. memory_given_back t m name) me.0 w.0
+        × (w.1 ≡ me.1)) }
     ensures zeros { (t : Lasting) (planting : PlantingView)
         (slots id : ℕ) (me : Me ℕ LastingView) (p : SeatedPass) (m : Memory) (word : Word)
         (slot : RecordNo) → me.0.passes ≡ p ∷ [] → me.0.memories ≡ m ∷ []
@@ -144,6 +169,86 @@ pub fn names_last<S: Shape>()
         → Allows (TableLasts S.allows t planting) slots id me at (λ n. n)
         (λ n w. GoesOnWith S.allows (past_scxs p.number.0 m.scx_to count)
         (memory_with_scx m count slot) me.0 w.0 × (w.1 ≡ me.1)) }
+{
+    unborn_stays_out();
+}
+
+/// The first pass of a seat goes to a seat of its own, and a seat takes in the passes of another. It
+/// does nothing; a caller learns this from its contract.
+pub fn seats_last<S: Shape>()
+    ensures deals { (t : Lasting) (planting : PlantingView) (id : ℕ) (v : LastingView)
+        → Splits (TableLasts S.allows t planting) id v (rest_of_view v) (first_of_view v) }
+    ensures joins { (t : Lasting) (planting : PlantingView) (id other : ℕ) (v w : LastingView)
+        → Joins (TableLasts S.allows t planting) id v other w (joined_view v w) no_view }
+{}
+
+/// A pass sees that a name that a slot of its own holds is marked; and notes that a name is out of
+/// reach that was of no use to it as it rested. It does nothing; a caller learns this from its
+/// contract.
+pub fn sights_last<S: Shape>()
+    ensures marks { (t : Lasting) (planting : PlantingView) (slots id : ℕ) (me : Me ℕ LastingView)
+        (p : SeatedPass) (m : Memory) (node : NodeNo) → me.0.passes ≡ p ∷ []
+        → me.0.memories ≡ m ∷ [] → p.number.0 < t.lay.passes
+        → IsIn (RecordNo.Node node) m.holds → IsTakenNode (past_of p []) node.0
+        → Allows (TableLasts S.allows t planting) slots id me
+        (table_place t (Word.Node node NodeWord.Marked)) (λ n. n)
+        (λ n w. LearnsWith S.allows (memory_marked m (RecordNo.Node node) n) me.0 w.0
+        × (w.1 ≡ me.1)) }
+    ensures unused { (t : Lasting) (planting : PlantingView) (slots id : ℕ)
+        (me : Me ℕ LastingView) (p : SeatedPass) (m : Memory) (at : ℕ) (name : RecordNo)
+        → me.0.passes ≡ p ∷ [] → me.0.memories ≡ m ∷ [] → p.number.0 < t.lay.passes
+        → m.away ≡ false
+        → IsUnused p.layout p.number.0 (record_at name) (history_of p.planting m.rested)
+        → Allows (TableLasts S.allows t planting) slots id me at (λ n. n)
+        (λ n w. LearnsWith S.allows (λ rows. memory_unused m name) me.0 w.0 × (w.1 ≡ me.1)) }
+{
+    unborn_stays_out();
+}
+
+/// A pass that is between two calls sees when an SCX-record of its own is dead. For each node that it
+/// covers a look at the place of the node's info tells that it is done with that, whoever is there, if
+/// another is named; or the pass knows it, as where it is committed and finalizes the node. It does
+/// nothing; a caller learns this from its contract.
+pub fn finished_last<S: Shape>()
+    ensures looks { (t : Lasting) (planting : PlantingView) (slots id : ℕ) (me : Me ℕ LastingView)
+        (p : SeatedPass) (m : Memory) (s : ScxNo) (j n : ℕ) → me.0.passes ≡ p ∷ []
+        → me.0.memories ≡ m ∷ [] → IsIn (RecordNo.Scx s) m.holds
+        → IsTakenScx (past_of p []) s.0 → AreFinished p.layout p.number.0 0 (past_of p [])
+        → member (past_of p []) s.0 j ≡ n
+        → Allows (TableLasts S.allows t planting) slots id me (table_place t (info n)) (λ v. v)
+        (λ v w. LearnsWith S.allows (λ rows. memory_looked_at m s j v) me.0 w.0
+        × (w.1 ≡ me.1)) }
+    ensures knows { (t : Lasting) (planting : PlantingView) (slots id : ℕ) (me : Me ℕ LastingView)
+        (p : SeatedPass) (m : Memory) (s : ScxNo) (at j : ℕ) → me.0.passes ≡ p ∷ []
+        → me.0.memories ≡ m ∷ [] → IsIn (RecordNo.Scx s) m.holds
+        → IsTakenScx (past_of p []) s.0 → AreFinished p.layout p.number.0 0 (past_of p [])
+        → WasDoneWith p.layout (past_of p []) s.0 j
+        → Allows (TableLasts S.allows t planting) slots id me at (λ v. v)
+        (λ v w. LearnsWith S.allows (λ rows. memory_done m s j) me.0 w.0 × (w.1 ≡ me.1)) }
+    ensures dead { (t : Lasting) (planting : PlantingView) (slots id : ℕ) (me : Me ℕ LastingView)
+        (p : SeatedPass) (m : Memory) (s : ScxNo) (at : ℕ) → me.0.passes ≡ p ∷ []
+        → me.0.memories ≡ m ∷ [] → IsIn (RecordNo.Scx s) m.holds
+        → IsTakenScx (past_of p []) s.0 → AreFinished p.layout p.number.0 0 (past_of p [])
+        → ((j : ℕ) → j < count (past_of p []) s.0
+        → IsIn (noted_as (RecordNo.Scx s) (NoteView.DoneWith j)) m.notes)
+        → Allows (TableLasts S.allows t planting) slots id me at (λ v. v)
+        (λ v w. LearnsWith S.allows (memory_over m s) me.0 w.0 × (w.1 ≡ me.1)) }
+{
+    unborn_stays_out();
+    dead_comes_back();
+}
+
+/// Each node of the tree is held, and its words are those of the run, whatever has come back. It does
+/// nothing; a caller learns this from its contract.
+pub fn trees_last<S: Shape>()
+    ensures held { (t : Lasting) (planting : PlantingView) (s : State ℕ LastingView)
+        (x : TableLasts S.allows t planting s) (n : ℕ)
+        → IsInTree (history_of planting x.rows) n → IsHeld t x.held (the_node n) }
+    ensures words { (t : Lasting) (planting : PlantingView) (s : State ℕ LastingView)
+        (x : TableLasts S.allows t planting s) (n : ℕ) (part : NodeWord)
+        → IsInTree (history_of planting x.rows) n → IsWord t.lay (node n part)
+        → slice_index s.words (table_place t (node n part))
+        ≡ value (history_of planting x.rows) (node n part) }
 {
     unborn_stays_out();
 }

@@ -19,6 +19,8 @@ pub enum NoteView {
     DeadBy(LinkedList<Row>),
     /// It is out of reach, and gone for good.
     OutOfReach,
+    /// An SCX-record: at a moment when it was finished it was done with its node of this place.
+    DoneWith(u64),
 }
 
 /// A name, and what a pass has noted of it.

@@ -1,0 +1,110 @@
+-- What a pass sees of names keeps the rule of a table that lasts.
+use Rattle.std.proofs.Common.{◌≡◌, ◌<◌, ℕ, false, eq-eqb, ne_eqb, [], ◌∷◌, slice_index, inl, inr, refl, sym, ◌∙◌, subst}
+use native.Mathlib.Decide.{ℕ_discrete}
+use Rattle.atomic_table.specs.Table.{Me, Act, Allows, Valid, carried_after, keeps, stepped}
+use Rattle.histories.specs.Common.{Layout, History, NodeNo, value, node, marked, IsTakenNode}
+use Rattle.arena.specs.declared.word.NodeWord.TheVariants.{Marked}
+use Rattle.arena.proofs.Lemmas.{ends_self}
+use Rattle.histories.proofs.Lemmas.{own_node_inside}
+use Rattle.planting.specs.Plantings.{PlantingView}
+use Rattle.resting.specs.Records.{Record, the_node, the_scx}
+use Rattle.resting.specs.Reach.{IsOutOfReach}
+use Rattle.resting.proofs.Lemmas.{unborn_out, unnamed_out}
+use Rattle.slots.specs.Lasting.{Lasting, table_place}
+use Rattle.forest.specs.TableRule.{history_of, past_of}
+use Rattle.forest.specs.LastingMemory.{IsGoneRecord, IsHeldName, Present, RemembersWell, record_at}
+use Rattle.forest.specs.LastingNotes.{IsIn, IsUnused, memory_marked, memory_unused, noted_as}
+use Rattle.forest.specs.LastingRule.{LearnsWith, TableLasts}
+use Rattle.forest.specs.declared.lasting_view.LastingView.{LastingView}
+use Rattle.forest.specs.declared.lasting_view.Memory.{Memory}
+use Rattle.forest.specs.declared.lasting_view.NoteView.TheVariants.{MarkedOrDead}
+use Rattle.forest.specs.declared.lasting_view.RecordNo.{RecordNo}
+use Rattle.forest.specs.declared.lasting_view.RecordNo.TheVariants.{Node}
+use Rattle.forest.specs.declared.rule.Plot.{Plot}
+use Rattle.forest.specs.declared.view.SeatedPass.{SeatedPass}
+use Rattle.forest.proofs.LastingKept.{StaysUnborn}
+use Rattle.forest.proofs.LastingGhosts.{in_each, noted}
+use Rattle.forest.proofs.LastingSeats.{aware, behind_known, learnt, now, own, well}
+use Rattle.forest.proofs.LastingSlots.{taken_since}
+
+-- what was of no use is out of reach, and gone
+unused_out : (lay : Layout) (h : History) (last : ℕ → History) (o : ℕ) (x : Record) → o < lay.passes → IsUnused lay o x (last o) → IsOutOfReach lay h last x × IsGoneRecord lay h last x
+unused_out lay h last o (the_node n) i x = (unborn_out lay h last o n i x, inr (inr (o, i, x)))
+unused_out lay h last o (the_scx s) i x = (unnamed_out lay h last o s i x, tt)
+
+module _ (allows : Layout → History → ℕ → Type 0) (t : Lasting) (planting : PlantingView) (stays : StaysUnborn t.lay) (slots id : ℕ) (me : Me ℕ LastingView) (p : SeatedPass) (m : Memory) (one : me.0.passes ≡ p ∷ []) (recalled : me.0.memories ≡ m ∷ []) (is_pass : p.number.0 < t.lay.passes) where
+  -- a look at the mark of a node that an own slot holds
+  pub lasting_marks : (n : NodeNo) → IsIn (Node n) m.holds → IsTakenNode (past_of p []) n.0 → Allows (TableLasts allows t planting) slots id me (table_place t (node n.0 Marked)) (λ v. v) (λ v w. LearnsWith allows (memory_marked m (Node n) v) me.0 w.0 × (w.1 ≡ me.1))
+  lasting_marks n holds taken s kept sized fits small = go (ℕ_discrete found 0)
+    where
+      h : History
+      h = history_of planting kept.rows
+
+      at : ℕ
+      at = table_place t (node n.0 Marked)
+
+      found : ℕ
+      found = slice_index s.words at
+
+      before : Present
+      before = now allows t planting s kept id me.0 fits p m one recalled
+
+      recalls : RemembersWell t planting before p.number.0 m
+      recalls = well allows t planting s kept id me.0 fits p m one recalled
+
+      mine : IsHeldName t p.number.0 before (Node n)
+      mine = in_each (IsHeldName t p.number.0 before) (Node n) m.holds holds recalls.names.holds
+
+      shown : found ≡ value h (marked n.0)
+      shown = kept.window.shows (node n.0 Marked) (own_node_inside t.lay p.number.0 n.0 is_pass mine.0.0) mine.1
+
+      was_taken : IsTakenNode h n.0
+      was_taken = taken_since h (history_of planting p.known) (the_node n.0) (behind_known allows t planting s kept id me.0 fits p m one recalled) (subst (λ (g : Plot). IsTakenNode (history_of g.planting p.known) n.0) (own allows t planting s kept id me.0 fits p m one recalled).1 taken)
+
+      go : Dec (found ≡ 0) → (w : LastingView) × (a : Act ℕ) × Valid s.homes me.1 a × TableLasts allows t planting (stepped s at found id me.1 w a) × (LearnsWith allows (memory_marked m (Node n) found) me.0 w × (carried_after me.1 a ≡ me.1))
+      go (yes e) = (
+        record { passes = aware allows t planting s kept id me.0 fits p m one recalled ∷ []; memories = m ∷ [] },
+        keeps,
+        tt,
+        noted allows t planting stays s kept id me.0 fits p m one recalled at m refl refl refl recalls.names,
+        ((kept.rows, learnt allows t planting s kept id me.0 fits p m one recalled, rw (eq-eqb found 0 e) refl), refl),
+      )
+      go (no d) =
+          let names = recalls.names in
+          let after : Memory = record m { notes = noted_as (Node n) (MarkedOrDead kept.rows) ∷ m.notes } in (
+            record { passes = aware allows t planting s kept id me.0 fits p m one recalled ∷ []; memories = after ∷ [] },
+            keeps,
+            tt,
+            noted allows t planting stays s kept id me.0 fits p m one recalled at after refl refl refl record {
+              dealt = names.dealt;
+              later = names.later;
+              notes = ((ends_self h, inl record { taken = was_taken; mark = λ z. d (shown ∙ z) }), names.notes);
+              polls = names.polls;
+              holds = names.holds;
+              empty = names.empty;
+              zeros = names.zeros;
+            },
+            ((kept.rows, learnt allows t planting s kept id me.0 fits p m one recalled, rw (ne_eqb found 0 d) refl), refl),
+          )
+
+  -- a name that was of no use to the pass as it rested, at a load of any word
+  pub lasting_unused : (at : ℕ) (name : RecordNo) → m.away ≡ false → IsUnused p.layout p.number.0 (record_at name) (history_of p.planting m.rested) → Allows (TableLasts allows t planting) slots id me at (λ n. n) (λ n w. LearnsWith allows (λ rows. memory_unused m name) me.0 w.0 × (w.1 ≡ me.1))
+  lasting_unused at name there unused s kept sized fits small =
+      let before : Present = now allows t planting s kept id me.0 fits p m one recalled in
+      let recalls : RemembersWell t planting before p.number.0 m = well allows t planting s kept id me.0 fits p m one recalled in
+      let names = recalls.names in
+      let here : IsUnused t.lay p.number.0 (record_at name) (kept.last p.number.0) = subst (IsUnused t.lay p.number.0 (record_at name)) (sym (recalls.rested there)) (subst (λ (g : Plot). IsUnused g.layout p.number.0 (record_at name) (history_of g.planting m.rested)) (own allows t planting s kept id me.0 fits p m one recalled).1 unused) in (
+        record { passes = aware allows t planting s kept id me.0 fits p m one recalled ∷ []; memories = memory_unused m name ∷ [] },
+        keeps,
+        tt,
+        noted allows t planting stays s kept id me.0 fits p m one recalled at (memory_unused m name) refl refl refl record {
+          dealt = names.dealt;
+          later = names.later;
+          notes = (unused_out t.lay (history_of planting kept.rows) kept.last p.number.0 (record_at name) is_pass here, names.notes);
+          polls = names.polls;
+          holds = names.holds;
+          empty = names.empty;
+          zeros = names.zeros;
+        },
+        ((kept.rows, learnt allows t planting s kept id me.0 fits p m one recalled, refl), refl),
+      )

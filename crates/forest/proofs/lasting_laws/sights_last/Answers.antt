@@ -1,0 +1,8 @@
+use Rattle.forest.proofs.LastingSees.{lasting_marks, lasting_unused}
+use Rattle.forest.proofs.lasting_laws.sights_last.Goals as goal
+
+pub returns-clause-marks : goal.returns-clause-marks
+returns-clause-marks g c = λ t planting slots id me p m node one recalled is_pass. lasting_marks g.S.Shape.allows t planting (λ h o rest n. c.unborn_stays_out.ensures.stays t.lay h o rest n) slots id me p m one recalled is_pass node
+
+pub returns-clause-unused : goal.returns-clause-unused
+returns-clause-unused g c = λ t planting slots id me p m at name one recalled is_pass. lasting_unused g.S.Shape.allows t planting (λ h o rest n. c.unborn_stays_out.ensures.stays t.lay h o rest n) slots id me p m one recalled is_pass at name

@@ -1,0 +1,118 @@
+-- What passes of a table that lasts remember from one call to the next, and when it is so.
+use Rattle.std.specs.Prelude.{◌≡◌, ◌<◌, ◌⊎◌, ℕ, true, false, List, [], ◌∷◌, Option, Some, None, slice_index}
+use Rattle.histories.specs.Common.{Layout, Word, History, Extends, IsWord, IsTakenNode, place, log, is_final}
+use Rattle.planting.specs.Plantings.{PlantingView}
+use Rattle.touching.specs.Left.{HasLeft}
+use Rattle.resting.specs.Dead.{IsDead, IsMarkedRecord, IsUnborn, WasDoneWith}
+use Rattle.resting.specs.Periods.{IsRightNote, dead_by, out_of_reach}
+use Rattle.resting.specs.Records.{Record, record_of, the_node, the_scx}
+use Rattle.slots.specs.Counts.{HasSeenRests, Tally}
+use Rattle.slots.specs.Held.{Held, IsHeld}
+use Rattle.slots.specs.Lasting.{IsOwnName, IsOwnRecord, IsUntaken, Lasting}
+use Rattle.forest.specs.Passes.{Each}
+use Rattle.forest.specs.TableRule.{history_of}
+use Rattle.forest.specs.declared.lasting_view.Memory.{Memory}
+use Rattle.forest.specs.declared.lasting_view.NoteView.{NoteView}
+use Rattle.forest.specs.declared.lasting_view.NoteView.TheVariants.{MarkedOrDead, DeadBy, OutOfReach, DoneWith}
+use Rattle.forest.specs.declared.lasting_view.Polled.{Polled}
+use Rattle.forest.specs.declared.lasting_view.RecordNo.{RecordNo}
+use Rattle.forest.specs.declared.lasting_view.RecordNo.TheVariants.{Node, Scx}
+use Rattle.forest.specs.declared.view.SeatedPass.{SeatedPass}
+
+-- the record of this number
+abbrev pub record_at : RecordNo → Record
+record_at (Node n) = the_node n.0
+record_at (Scx s) = the_scx s.0
+
+-- Where a table is: its words, its run, for each pass a moment at which it has rested, what each
+-- slot holds, and how often each pass has rested.
+pub record Present : Type 0 where
+  pub words : List ℕ
+  pub run : History
+  pub last : ℕ → History
+  pub held : Held
+  pub tally : Tally
+
+abbrev pub present : List ℕ → History → (ℕ → History) → Held → Tally → Present
+present words run last held tally = record { words = words; run = run; last = last; held = held; tally = tally }
+
+-- The node is final, has left, or was never put in as its pass rested. So it is not in the tree, and
+-- never comes there any more.
+abbrev pub IsGone : Layout → History → (ℕ → History) → ℕ → Type 0
+IsGone lay h last n = (is_final (log lay h) n ≡ true) ⊎ (HasLeft h n ⊎ ((p : ℕ) × (p < lay.passes) × IsUnborn lay p (last p) n))
+
+-- so it is with each node; of an SCX-record nothing is to be said
+abbrev pub IsGoneRecord : Layout → History → (ℕ → History) → Record → Type 0
+IsGoneRecord lay h last (the_node n) = IsGone lay h last n
+IsGoneRecord lay h last (the_scx s) = Unit {0}
+
+-- each node that was taken is held, or gone
+abbrev pub AreHeldOrGone : Lasting → Present → Type 0
+AreHeldOrGone t now = (n : ℕ) → IsTakenNode now.run n → IsHeld t now.held (the_node n) ⊎ IsGone t.lay now.run now.last n
+
+-- at a moment when it was finished the SCX-record was done with that node
+abbrev pub IsDoneWith : Layout → History → Record → ℕ → Type 0
+IsDoneWith lay h (the_node n) j = Unit {0}
+IsDoneWith lay h (the_scx s) j = WasDoneWith lay h s j
+
+-- The pass's note of a record is right; and if it is dead, or out of reach, it is gone.
+abbrev pub IsNoteSo : Layout → PlantingView → ℕ → Present → Record → NoteView → Type 0
+IsNoteSo lay planting o now x (MarkedOrDead rows) = Extends now.run (history_of planting rows) × (IsMarkedRecord x (history_of planting rows) ⊎ (IsDead lay o x (history_of planting rows) × IsGoneRecord lay now.run now.last x))
+IsNoteSo lay planting o now x (DeadBy rows) = IsRightNote lay o x now.run now.last (dead_by (history_of planting rows)) × IsGoneRecord lay now.run now.last x
+IsNoteSo lay planting o now x OutOfReach = IsRightNote lay o x now.run now.last out_of_reach × IsGoneRecord lay now.run now.last x
+IsNoteSo lay planting o now x (DoneWith j) = IsDoneWith lay now.run x j
+
+-- by then the pass p had rested so often; or it has rested since
+abbrev pub HasPolledSo : Present → ℕ → History → Option ℕ → Type 0
+HasPolledSo now p m (Some seen) = HasSeenRests now.run now.last now.tally p m seen
+HasPolledSo now p m None = Extends (now.last p) m
+
+-- what was polled of a pass is right
+abbrev pub IsPollSo : Layout → PlantingView → Present → Polled → Type 0
+IsPollSo lay planting now poll = (poll.pass.0 < lay.passes) × HasPolledSo now poll.pass.0 (history_of planting poll.since) poll.waits
+
+-- the slot that the name is of is the pass's own, as the name is, and holds it
+abbrev pub IsHeldName : Lasting → ℕ → Present → RecordNo → Type 0
+IsHeldName t o now name = IsOwnName t o (record_at name) × IsHeld t now.held (record_at name)
+
+-- the slot is the pass's own, and holds nothing
+abbrev pub IsEmptySlot : Lasting → ℕ → Present → RecordNo → Type 0
+IsEmptySlot t o now slot = IsOwnRecord t.table o (record_at slot) × (now.held (record_at slot) ≡ None)
+
+-- the word is one of such a slot, and is 0
+pub record IsZeroWord (t : Lasting) (o : ℕ) (now : Present) (w : Word) : Type 0 where
+  pub is_word : IsWord t.table w
+  pub own : IsOwnRecord t.table o (record_of w)
+  pub none : now.held (record_of w) ≡ None
+  pub zero : slice_index now.words (place t.table w) ≡ 0
+
+-- the pass has dealt itself the name
+abbrev pub IsDealt : Memory → Record → Type 0
+IsDealt m (the_node n) = n < m.nodes_to
+IsDealt m (the_scx s) = s < m.scx_to
+
+-- what the pass remembers of names, of slots and of others is so
+pub record RemembersNames (t : Lasting) (planting : PlantingView) (now : Present) (o : ℕ) (m : Memory) : Type 0 where
+  -- its names that are dealt and untaken are held, and of the others none
+  pub dealt : (x : Record) → IsOwnRecord t.lay o x → IsDealt m x → IsUntaken t.lay now.run x → IsHeld t now.held x
+  pub later : (x : Record) → IsOwnRecord t.lay o x → ¬ IsDealt m x → ¬ IsHeld t now.held x
+  pub notes : Each (λ n. IsNoteSo t.lay planting o now (record_at n.name) n.note) m.notes
+  pub polls : Each (IsPollSo t.lay planting now) m.polls
+  pub holds : Each (IsHeldName t o now) m.holds
+  pub empty : Each (IsEmptySlot t o now) m.empty
+  pub zeros : Each (IsZeroWord t o now) m.zeros
+
+-- what the pass remembers is so
+pub record RemembersWell (t : Lasting) (planting : PlantingView) (now : Present) (o : ℕ) (m : Memory) : Type 0 where
+  pub away : m.away ≡ now.tally.away o
+  pub often : m.often ≡ now.tally.count o
+  -- while it is there it has last rested when it remembers
+  pub rested : m.away ≡ false → now.last o ≡ history_of planting m.rested
+  pub names : RemembersNames t planting now o m
+
+-- so it is with each of these passes, by what it remembers, in the same order
+abbrev pub RememberWell : Lasting → PlantingView → Present → List SeatedPass → List Memory → Type 0
+RememberWell t planting now [] [] = Unit {0}
+RememberWell t planting now [] (m ∷ ms) = ⊥
+RememberWell t planting now (p ∷ ps) [] = ⊥
+RememberWell t planting now (p ∷ ps) (m ∷ ms) = RemembersWell t planting now p.number.0 m × RememberWell t planting now ps ms

@@ -1,0 +1,104 @@
+-- What a pass of a table that lasts comes to remember: of its rests and those of others, and of names.
+use Rattle.std.specs.Prelude.{◌≡◌, ◌≢◌, ◌<◌, ◌⊎◌, ◌*◌, ◌/◌, ◌%◌, ◌==◌, if◌then◌else◌, ℕ, suc, true, false, List, [], ◌∷◌, Option, Some, None}
+use Rattle.histories.specs.Common.{Layout, Row, History, Extends, ScxNo}
+use Rattle.planting.specs.Plantings.{PlantingView}
+use Rattle.resting.specs.Dead.{IsUnborn, IsUnnamedScx}
+use Rattle.resting.specs.Records.{Record, the_node, the_scx}
+use Rattle.forest.specs.TableRule.{history_of}
+use Rattle.forest.specs.declared.lasting_view.Memory.{Memory}
+use Rattle.forest.specs.declared.lasting_view.Noted.{Noted}
+use Rattle.forest.specs.declared.lasting_view.NoteView.{NoteView}
+use Rattle.forest.specs.declared.lasting_view.NoteView.TheVariants.{MarkedOrDead, DeadBy, OutOfReach, DoneWith}
+use Rattle.forest.specs.declared.lasting_view.Polled.{Polled}
+use Rattle.forest.specs.declared.lasting_view.RecordNo.{RecordNo}
+use Rattle.forest.specs.declared.lasting_view.RecordNo.TheVariants.{Scx}
+use Rattle.forest.specs.declared.view.SeatedPass.{SeatedPass}
+
+-- a note of a name
+abbrev pub noted_as : RecordNo → NoteView → Noted
+noted_as name note = record { name = name; note = note }
+
+-- what is remembered of a rest after these rows
+abbrev pub memory_rested : Memory → List Row → Memory
+memory_rested m rows = record m { rested = rows; away = false; often = suc m.often }
+
+-- what is remembered while the pass is away
+abbrev pub memory_away : Memory → Memory
+memory_away m = record m { away = true }
+
+-- how often another pass had rested, by what its word was; nothing if it was away, and so rests
+abbrev pub waits_of : ℕ → Option ℕ
+waits_of n = if n % 2 == 0 then Some (n / 2) else None
+
+-- what is remembered of a first look at the word of the pass q, that was n, after these rows
+abbrev pub memory_looked : Memory → ℕ → ℕ → List Row → Memory
+memory_looked m q n rows = record m { polls = record { pass = record { 0 = q }; since = rows; waits = waits_of n } ∷ m.polls }
+
+-- what is remembered of a look at the word, that was n, of the pass of a poll that had rested so often
+abbrev pub memory_polled : Memory → Polled → (seen n : ℕ) → Memory
+memory_polled m poll seen n = if n == 2 * seen then m else record m { polls = record poll { waits = None } ∷ m.polls }
+
+-- x is one of these
+abbrev pub IsIn : {A : Type 0} → A → List A → Type 0
+IsIn x [] = ⊥
+IsIn x (y ∷ ys) = (x ≡ y) ⊎ IsIn x ys
+
+-- what a look has told of the pass q: it has rested since these rows
+abbrev pub rested_poll : ℕ → List Row → Polled
+rested_poll q rows = record { pass = record { 0 = q }; since = rows; waits = None }
+
+-- The pass is there, and has rested since these rows, and it has polled that so has each other.
+pub record HasRestedSince (lay : Layout) (p : SeatedPass) (m : Memory) (rows : List Row) : Type 0 where
+  pub there : m.away ≡ false
+  pub own : Extends (history_of p.planting m.rested) (history_of p.planting rows)
+  pub others : (q : ℕ) → q < lay.passes → q ≢ p.number.0 → IsIn (rested_poll q rows) m.polls
+
+-- the note is of that moment, or of one before
+abbrev pub IsBefore : PlantingView → History → NoteView → Type 0
+IsBefore planting moment (MarkedOrDead rows) = Extends moment (history_of planting rows)
+IsBefore planting moment (DeadBy rows) = Extends moment (history_of planting rows)
+IsBefore planting moment OutOfReach = Unit {0}
+IsBefore planting moment (DoneWith j) = Unit {0}
+
+-- how a note goes on when all have rested: what was marked or dead is dead by now, and what was dead
+-- is out of reach
+abbrev pub further : List Row → NoteView → NoteView
+further rows (MarkedOrDead old) = DeadBy rows
+further rows (DeadBy old) = OutOfReach
+further rows OutOfReach = OutOfReach
+further rows (DoneWith j) = DoneWith j
+
+-- these notes, and behind them the others
+abbrev pub further_all : List Row → List Noted → List Noted → List Noted
+further_all rows [] notes = notes
+further_all rows (n ∷ ns) notes = record { name = n.name; note = further rows n.note } ∷ further_all rows ns notes
+
+-- what is remembered once these notes have gone on
+abbrev pub memory_noted : Memory → List Noted → List Row → Memory
+memory_noted m chosen rows = record m { notes = further_all rows chosen m.notes }
+
+-- what is remembered of a look at the mark of a name that is held, which was n, after these rows
+abbrev pub memory_marked : Memory → RecordNo → (n : ℕ) → List Row → Memory
+memory_marked m name n rows = if n == 0 then m else record m { notes = noted_as name (MarkedOrDead rows) ∷ m.notes }
+
+-- The name is the pass's own, taken as it rested, and by then was no node that was ever put in, and
+-- no SCX-record that an info had named, which was finished.
+abbrev pub IsUnused : Layout → ℕ → Record → History → Type 0
+IsUnused lay o (the_node n) rest = IsUnborn lay o rest n
+IsUnused lay o (the_scx s) rest = IsUnnamedScx lay o rest s
+
+-- what is remembered of such a name: it is out of reach
+abbrev pub memory_unused : Memory → RecordNo → Memory
+memory_unused m name = record m { notes = noted_as name OutOfReach ∷ m.notes }
+
+-- what is remembered of an SCX-record that was done with its node of this place, as a look at the
+-- node's info told, which was n, or as the pass knew
+abbrev pub memory_done : Memory → ScxNo → (j : ℕ) → Memory
+memory_done m s j = record m { notes = noted_as (Scx s) (DoneWith j) ∷ m.notes }
+
+abbrev pub memory_looked_at : Memory → ScxNo → (j n : ℕ) → Memory
+memory_looked_at m s j n = if n == s.0 then m else memory_done m s j
+
+-- and of one that is dead after these rows
+abbrev pub memory_over : Memory → ScxNo → List Row → Memory
+memory_over m s rows = record m { notes = noted_as (Scx s) (MarkedOrDead rows) ∷ m.notes }

@@ -1,0 +1,52 @@
+-- How slots of a table that lasts come to hold nothing.
+use Rattle.std.specs.Prelude.{◌≡◌, ◌%◌, if◌then◌else◌, ℕ, suc, List, [], ◌∷◌}
+use Rattle.histories.specs.Common.{Word, History, IsTakenNode, IsTakenScx, Remaining, HasNode, HasScx}
+use Rattle.resting.specs.Records.{Record, the_node, the_scx}
+use Rattle.slots.specs.Held.{same_record}
+use Rattle.slots.specs.Lasting.{Lasting}
+use Rattle.forest.specs.LastingMemory.{record_at}
+use Rattle.forest.specs.declared.lasting_view.Memory.{Memory}
+use Rattle.forest.specs.declared.lasting_view.RecordNo.{RecordNo}
+use Rattle.forest.specs.declared.lasting_view.RecordNo.TheVariants.{Node, Scx}
+
+-- the slot of the name
+abbrev pub slot_number : Lasting → RecordNo → RecordNo
+slot_number t (Node n) = Node record { 0 = n.0 % t.node_turn }
+slot_number t (Scx s) = Scx record { 0 = s.0 % t.scx_turn }
+
+-- these names without that one
+abbrev pub without : Record → List RecordNo → List RecordNo
+without x [] = []
+without x (n ∷ ns) = if same_record (record_at n) x then without x ns else n ∷ without x ns
+
+-- What is remembered once the slot of the name holds nothing, and names up to these two are dealt;
+-- and if as many are dealt as before.
+abbrev pub memory_without : Lasting → Memory → RecordNo → (nodes_to scx_to : ℕ) → Memory
+memory_without t m name nodes_to scx_to = record m { nodes_to = nodes_to; scx_to = scx_to; holds = without (record_at name) m.holds; empty = slot_number t name ∷ m.empty }
+
+abbrev pub memory_let_go : Lasting → Memory → RecordNo → Memory
+memory_let_go t m name = memory_without t m name m.nodes_to m.scx_to
+
+-- so it is once a name is given back that nobody has taken, and all behind it
+abbrev pub memory_given_back : Lasting → Memory → RecordNo → Memory
+memory_given_back t m (Node n) = memory_without t m (Node n) n.0 m.scx_to
+memory_given_back t m (Scx s) = memory_without t m (Scx s) m.nodes_to s.0
+
+-- the name is the last that is dealt
+abbrev pub IsLastDealt : Memory → Record → Type 0
+IsLastDealt m (the_node n) = m.nodes_to ≡ suc n
+IsLastDealt m (the_scx s) = m.scx_to ≡ suc s
+
+-- the name is left of a share
+abbrev pub IsLeft : Remaining → Record → Type 0
+IsLeft left (the_node n) = HasNode left n
+IsLeft left (the_scx s) = HasScx left s
+
+-- what is remembered once this word is 0
+abbrev pub memory_cleared : Memory → Word → Memory
+memory_cleared m u = record m { zeros = u ∷ m.zeros }
+
+-- the record was taken
+abbrev pub WasTaken : History → Record → Type 0
+WasTaken h (the_node n) = IsTakenNode h n
+WasTaken h (the_scx s) = IsTakenScx h s
