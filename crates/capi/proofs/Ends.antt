@@ -1,10 +1,12 @@
 -- What is known of handles that are gone through, one after the other.
-use Rattle.std.proofs.Common.{◌≡◌, ◌<◌, ◌≤◌, ◌+◌, ℕ, List, [], ◌∷◌, ◌++◌, length, map, get_or, set, take, take_all, Option, Some, None, IsSome, IfSome, MatchOption, All, sym, ◌∙◌, ap, ap₂, refl, subst}
+use Rattle.std.proofs.Common.{◌≡◌, ◌<◌, ◌≤◌, ◌+◌, ℕ, List, [], ◌∷◌, ◌++◌, length, map, get_or, set, take, take_all, Option, Some, None, IsSome, IfSome, MatchOption, All, sym, ◌∙◌, ap, ap₂, refl, subst, arith}
 use Rattle.std.specs.Arc.{arc_value}
+use Rattle.std.specs.Global.{Global}
+use Rattle.std.specs.declared.sync.Arc.{Arc}
 use Rattle.std.specs.Option.{option_map}
 use Rattle.std.proofs.Math.Seq.{map-set_same}
 use Rattle.std.proofs.lemmas.List.{get_or-map, map-append, map-set, take_more_set, length-map}
-use Rattle.std.proofs.lemmas.List.Elements.{All-same, All-push, All-pop}
+use Rattle.std.proofs.lemmas.List.Elements.{All-same, All-push, All-pop, All-weaker}
 use Rattle.std.proofs.lemmas.Option.{none-some}
 use Rattle.std.proofs.lemmas.Bool.{false≢true}
 use Rattle.forest.specs.Passes.{Ground, IsOf, PassView}
@@ -12,7 +14,7 @@ use Rattle.capi.specs.declared.client.OwnedPass.{OwnedPass}
 use Rattle.capi.specs.declared.client.OwnedPass.TheVariants.{Tree, Trie}
 use Rattle.capi.specs.Owned.{owner_of, pass_of}
 use Rattle.capi.specs.declared.handle.HandleSlot.{HandleSlot}
-use Rattle.capi.specs.Ends.{IsIn, held_in, pass_in}
+use Rattle.capi.specs.Ends.{AreEnough, AreHeld, AreTooFew, IsIn, held_in, pass_in}
 use Rattle.capi.specs.Handles.{pass_count}
 use Rattle.capi.specs.Made.{IsHeldOf}
 
@@ -71,10 +73,31 @@ module _ (ys : List HandleSlot) (place : HandleSlot) (client : OwnedPass) (is : 
       let both = All-pop (IsIn f) (held_in (ys ++ place ∷ [])) (held_in ys) (Some place.handle.value) (map-append value_of ys (place ∷ [])) all in
       (both.0, subst (IsIn f) (sym is) both.1)
 
+  -- one pass more is taken, of this view, from a forest with this owner
+  pub one_more : (before after : List PassView) (p : PassView) (a : Arc Ground Global) → pass_of client ≡ p → owner_of client ≡ a → after ≡ before ++ p ∷ [] → map pass_in (held_in ys) ≡ map Some before
+      → (map pass_in (held_in (ys ++ place ∷ [])) ≡ map Some after) × ((f : Ground) → All (IsIn f) (held_in (ys ++ place ∷ [])) → arc_value a ≡ f)
+  one_more before after p a is_pass is_owner more are = (
+    listed before are ∙ ap (λ (q : PassView). map Some (before ++ q ∷ [])) is_pass ∙ ap (map Some) (sym more),
+    λ f all. ap (λ (o : Arc Ground Global). arc_value o) (sym is_owner) ∙ (of_both f all).1,
+  )
+
 -- a pass of a forest is there
 pub held_is_in : (f : Ground) (v : Option OwnedPass) → IsHeldOf f v → IsIn f v
 held_is_in f (Some c) held = held
 held_is_in f None held = absurd held
+
+-- the first handle that says how many passes there are says it of the dictionary of them all
+module _ (xs : List HandleSlot) (n : ℕ) where
+  -- these are fewer
+  pub too_few : (f : Ground) → (n ≡ f.layout.passes) × All (IsHeldOf f) (held_in xs) → length xs < n → AreTooFew (held_in xs)
+  too_few f told fewer = record { forest = f; of_forest = told.1; few = omega (arith, told.0, length-map xs value_of, fewer) }
+
+  -- these are as many
+  pub enough : AreHeld (held_in xs) → ((f : Ground) → All (IsIn f) (held_in xs) → (n ≡ f.layout.passes) × All (IsHeldOf f) (held_in xs)) → n ≤ length xs → AreEnough (held_in xs)
+  enough each told all = record {
+    each = each;
+    enough = λ f of_f. let is = told f (All-weaker (IsHeldOf f) (IsIn f) (held_is_in f) (held_in xs) of_f) in omega (arith, is.0, length-map xs value_of, all);
+  }
 
 -- the pass of a client is of its forest
 of_own : (c : OwnedPass) → IsOf (arc_value (owner_of c)) (pass_of c)

@@ -1,6 +1,6 @@
 -- What begins with pairs: a new dictionary that C has given them, or one that another was left
 -- with, which has ended by all its passes at once.
-use Rattle.std.specs.Prelude.{◌≡◌, ◌⊎◌, ◌↔◌, ◌*◌, ℕ, Bool, IsTrue, Option, Some, None, List, length, map, take}
+use Rattle.std.specs.Prelude.{◌≡◌, ◌⊎◌, ◌↔◌, ◌*◌, ℕ, Bool, IsTrue, Some, List, length, map, take}
 use Rattle.std.specs.List.{All}
 use Rattle.arena.specs.Limits.{IsAccepted}
 use Rattle.arena.specs.declared.limits.Limits.{Limits}

@@ -6,7 +6,7 @@ ghost use Rattle.ordered_map.specs.declared.reply.Reply.TheVariants as replies;
 ghost use Rattle.forest.specs.Dictionary.{order_reply, update_reply};
 
 use crate::answer::{Count, KeyValue};
-use crate::close::{close_tree, close_trie};
+use crate::close::close;
 use crate::held::Held;
 use regnubas::{ByBits, ByOrder, OrderFault, UpdateFault};
 use std::alloc::Global;
@@ -247,11 +247,11 @@ impl OwnedPass {
         ensures { IsClosing self result }
     {
         match self {
-            OwnedPass::Tree(held) => match close_tree(held, alloc) {
+            OwnedPass::Tree(held) => match close(held, alloc) {
                 Ok(left) => Closing::of(left),
                 Err(held) => Closing::Shared(OwnedPass::Tree(held)),
             },
-            OwnedPass::Trie(held) => match close_trie(held, alloc) {
+            OwnedPass::Trie(held) => match close(held, alloc) {
                 Ok(left) => Closing::of(left),
                 Err(held) => Closing::Shared(OwnedPass::Trie(held)),
             },

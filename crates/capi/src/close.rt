@@ -2,40 +2,15 @@
 ghost use Rattle.capi.specs.Left.{IsClosingOf};
 
 use crate::held::Held;
-use regnubas::{ByBits, ByOrder, NoMemory};
+use regnubas::{FixedBalance, NoMemory};
 use std::alloc::Global;
 use std::sync::Arc;
 
-/// Ends the forest of a tree, if this is its last client.
-pub(crate) fn close_tree(
-    held: Held<ByOrder>,
+/// Ends the forest of a pass, if this is its last client.
+pub(crate) fn close<B: FixedBalance>(
+    held: Held<B>,
     alloc: Global,
-) -> Result<Option<Vec<(u64, u128)>>, Held<ByOrder>>
-    ensures { IsClosingOf held result }
-{
-    if Arc::strong_count(&held.forest) != 1 {
-        return Err(held);
-    }
-    let Held {
-        forest,
-        pass,
-        all: _,
-    } = held;
-    match Arc::try_unwrap(forest) {
-        Ok(forest) => match forest.end(pass).pairs(alloc) {
-            Ok(pairs) => Ok(Some(pairs)),
-            Err(NoMemory) => Ok(None),
-        },
-        // Never: this was the only owner.
-        Err(_) => Ok(None),
-    }
-}
-
-/// Ends the forest of a trie, if this is its last client.
-pub(crate) fn close_trie(
-    held: Held<ByBits>,
-    alloc: Global,
-) -> Result<Option<Vec<(u64, u128)>>, Held<ByBits>>
+) -> Result<Option<Vec<(u64, u128)>>, Held<B>>
     ensures { IsClosingOf held result }
 {
     if Arc::strong_count(&held.forest) != 1 {

@@ -1,11 +1,8 @@
 use Rattle.std.proofs.Common.{List, Option, inl, inr, arith, ap, subst, ◌∙◌}
-use Rattle.std.proofs.lemmas.List.{length-map}
-use Rattle.std.proofs.lemmas.List.Elements.{All-weaker}
 use Rattle.capi.specs.declared.client.OwnedPass.{OwnedPass}
 use Rattle.capi.specs.Answers.{counted}
-use Rattle.capi.specs.Ends.{AreEnough, HaveEndedWith, IsIn, held_in}
-use Rattle.capi.specs.Made.{IsHeldOf}
-use Rattle.capi.proofs.Ends.{held_is_in, value_of}
+use Rattle.capi.specs.Ends.{AreEnough, HaveEndedWith, held_in}
+use Rattle.capi.proofs.Ends.{enough, too_few}
 use Rattle.capi.proofs.exports.regnubas_end.Goals as goal
 use Rattle.capi.proofs.exports.regnubas_end.Goals.{After-end}
 
@@ -17,21 +14,12 @@ returns-then-passes-all c =
       same = c.all_of.ensures.same;
       why = inr (
         c.none-then-passes-all.ensures,
-        record {
-          forest = f;
-          of_forest = all.1;
-          few = omega (arith, all.0, length-map c.args.passes.now value_of, c.all_of.auto.passes, c.if-passes-all.true);
-        },
+        too_few c.args.passes.now c.in-Some.all f all (omega (arith, c.all_of.auto.passes, c.if-passes-all.true)),
       );
     })
 
 are_enough : (c : After-end) → AreEnough (held_in c.args.passes.now)
-are_enough c = record {
-  each = c.in-Some.ensures.held;
-  enough = λ f of_f.
-      let told = c.in-Some.ensures.some f (All-weaker (IsHeldOf f) (IsIn f) (held_is_in f) (held_in c.args.passes.now) of_f) in
-      omega (arith, told.0, length-map c.args.passes.now value_of, c.all_of.auto.passes, c.if-passes-all.false);
-}
+are_enough c = enough c.args.passes.now c.in-Some.all c.in-Some.ensures.held c.in-Some.ensures.some (omega (arith, c.all_of.auto.passes, c.if-passes-all.false))
 
 pub returns-in-Some-end : goal.returns-in-Some-end
 returns-in-Some-end c = inr (record {

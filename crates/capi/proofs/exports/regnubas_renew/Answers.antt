@@ -1,13 +1,10 @@
-use Rattle.std.proofs.Common.{◌↔◌, Bool, IsTrue, All, List, Option, inl, inr, arith, subst, ◌∙◌}
-use Rattle.std.proofs.lemmas.List.{length-map}
-use Rattle.std.proofs.lemmas.List.Elements.{All-weaker}
+use Rattle.std.proofs.Common.{◌↔◌, IsTrue, All, List, Option, inl, inr, arith, subst, ◌∙◌}
 use Rattle.arena.specs.Limits.{IsAccepted}
 use Rattle.arena.specs.declared.limits.Limits.{Limits}
 use Rattle.capi.specs.declared.client.OwnedPass.{OwnedPass}
 use Rattle.capi.specs.Begins.{NextSays}
-use Rattle.capi.specs.Ends.{AreEnough, HaveEndedWith, IsIn, IsOfTrie, held_in}
-use Rattle.capi.specs.Made.{IsHeldOf}
-use Rattle.capi.proofs.Ends.{held_is_in, value_of}
+use Rattle.capi.specs.Ends.{AreEnough, HaveEndedWith, IsOfTrie, held_in}
+use Rattle.capi.proofs.Ends.{enough, too_few}
 use Rattle.capi.proofs.exports.regnubas_renew.Goals as goal
 use Rattle.capi.proofs.exports.regnubas_renew.Goals.{After-end}
 
@@ -19,21 +16,12 @@ returns-then-passes-all c =
       same = c.all_of.ensures.same;
       why = inr (inr (
         c.none-then-passes-all.ensures,
-        record {
-          forest = f;
-          of_forest = all.1;
-          few = omega (arith, all.0, length-map c.args.passes.now value_of, c.all_of.auto.passes, c.if-passes-all.true);
-        },
+        too_few c.args.passes.now c.in-Some-all_of.all f all (omega (arith, c.all_of.auto.passes, c.if-passes-all.true)),
       ));
     })
 
 are_enough : (c : After-end) → AreEnough (held_in c.args.passes.now)
-are_enough c = record {
-  each = c.in-Some-all_of.ensures.held;
-  enough = λ f of_f.
-      let told = c.in-Some-all_of.ensures.some f (All-weaker (IsHeldOf f) (IsIn f) (held_is_in f) (held_in c.args.passes.now) of_f) in
-      omega (arith, told.0, length-map c.args.passes.now value_of, c.all_of.auto.passes, c.if-passes-all.false);
-}
+are_enough c = enough c.args.passes.now c.in-Some-all_of.all c.in-Some-all_of.ensures.held c.in-Some-all_of.ensures.some (omega (arith, c.all_of.auto.passes, c.if-passes-all.false))
 
 pub returns-in-Some-end : goal.returns-in-Some-end
 returns-in-Some-end c =

@@ -1,18 +1,16 @@
-use Rattle.std.proofs.Common.{◌≡◌, ℕ, List, [], ◌∷◌, map, sym, subst}
+use Rattle.std.proofs.Common.{ℕ, List, [], ◌∷◌, map, sym, subst}
 use Rattle.arena.specs.declared.layout.Layout.{Layout}
-use Rattle.arena.specs.History.{History, value, Extends}
-use Rattle.arena.specs.Log.{log}
+use Rattle.arena.specs.History.{History, value}
 use Rattle.arena.specs.Machines.{IsRun}
 use Rattle.arena.specs.PlainWords.{Contents}
 use Rattle.dict.specs.Typed.{TypedAllows}
 use Rattle.dict.specs.Words.{IsNumber, IsWideNumber}
 use Rattle.ordered_map.specs.Replies.{word_pair}
 use Rattle.ordered_map.specs.Spelled.{Spells}
-use Rattle.forest.specs.Passes.{Ground, PassView, IsOf, IsClosed, done_of, run_of}
-use Rattle.forest.specs.Shares.{entries_of}
+use Rattle.forest.specs.Passes.{Ground, PassView, IsOf, IsClosed}
 use Rattle.forest.specs.TableRule.{history_of}
 use Rattle.capi.specs.Left.{AreLeft}
-use Rattle.capi.proofs.close.close_tree.Goals as goal
+use Rattle.capi.proofs.close.close.Goals as goal
 
 module _ (f : Ground) (p : PassView) (of : IsOf f p) (words : Contents) (closed : IsClosed (TypedAllows IsNumber IsWideNumber) f.layout (p ∷ []) words) where
   -- the run at the end
@@ -29,7 +27,7 @@ module _ (f : Ground) (p : PassView) (of : IsOf f p) (words : Contents) (closed 
   }
 
 pub returns-in-Ok-pairs : goal.returns-in-Ok-pairs
-returns-in-Ok-pairs c =
+returns-in-Ok-pairs g c =
     let f = c.in-Ok.forest in
     let p = c.args.held.pass in
     left f p (subst (λ (g : Ground). IsOf g p) (sym c.in-Ok.ensures.ok) c.args.held.of) c.end.result c.end.ensures.closed c.in-Ok-pairs.pairs.items (c.in-Ok-pairs.ensures.pairs f.layout (p ∷ []) c.end.ensures.closed)
