@@ -1,20 +1,25 @@
 -- What a pass sees of names keeps the rule of a table that lasts.
-use Rattle.std.proofs.Common.{◌≡◌, ◌<◌, ℕ, false, eq-eqb, ne_eqb, [], ◌∷◌, slice_index, inl, inr, refl, sym, ◌∙◌, subst}
+use Rattle.std.proofs.Common.{◌≡◌, ◌<◌, ℕ, false, eq-eqb, ne_eqb, [], ◌∷◌, slice_index, inl, inr, refl, sym, ◌∙◌, ap, subst}
+use mathlib.Core.Option.{some}
+use lib.ListN.{get_elem?}
 use native.Mathlib.Decide.{ℕ_discrete}
-use Rattle.atomic_table.specs.Table.{Me, Act, Allows, Valid, carried_after, keeps, stepped}
-use Rattle.histories.specs.Common.{Layout, History, NodeNo, value, node, marked, IsTakenNode}
+use Rattle.atomic_table.specs.Table.{Me, Act, Allows, Valid, carried_after, keeps, stepped, State}
+use Rattle.histories.specs.Common.{Layout, History, NodeNo, value, node, marked, IsTakenNode, Word, Extends, IsWord}
 use Rattle.arena.specs.declared.word.NodeWord.TheVariants.{Marked}
 use Rattle.arena.proofs.Lemmas.{ends_self}
 use Rattle.histories.proofs.Lemmas.{own_node_inside}
 use Rattle.planting.specs.Plantings.{PlantingView}
-use Rattle.resting.specs.Records.{Record, the_node, the_scx}
+use Rattle.resting.specs.Records.{Record, the_node, the_scx, record_of}
 use Rattle.resting.specs.Reach.{IsOutOfReach}
 use Rattle.resting.proofs.Lemmas.{unborn_out, unnamed_out}
 use Rattle.slots.specs.Lasting.{Lasting, table_place}
+use Rattle.resting.specs.Dead.{HasLeftUnmarked}
+use Rattle.touching.proofs.Lemmas.{left_since}
+use Rattle.slots.specs.Held.{IsHeld}
 use Rattle.forest.specs.TableRule.{history_of, past_of}
 use Rattle.forest.specs.LastingMemory.{IsGoneRecord, IsHeldName, Present, RemembersWell, record_at}
-use Rattle.forest.specs.LastingNotes.{IsIn, IsUnused, memory_marked, memory_unused, noted_as}
-use Rattle.forest.specs.LastingRule.{LearnsWith, TableLasts}
+use Rattle.forest.specs.LastingNotes.{IsIn, IsUnused, memory_marked, memory_unused, noted_as, memory_left}
+use Rattle.forest.specs.LastingRule.{LearnsWith, TableLasts, LoadsWord}
 use Rattle.forest.specs.declared.lasting_view.LastingView.{LastingView}
 use Rattle.forest.specs.declared.lasting_view.Memory.{Memory}
 use Rattle.forest.specs.declared.lasting_view.NoteView.TheVariants.{MarkedOrDead}
@@ -26,6 +31,10 @@ use Rattle.forest.proofs.LastingKept.{StaysUnborn}
 use Rattle.forest.proofs.LastingGhosts.{in_each, noted}
 use Rattle.forest.proofs.LastingSeats.{aware, behind_known, learnt, now, own, well}
 use Rattle.forest.proofs.LastingSlots.{taken_since}
+
+-- the planting of the seat's pass
+planted : (allows : Layout → History → ℕ → Type 0) (t : Lasting) (planting : PlantingView) (s : State ℕ LastingView) (kept : TableLasts allows t planting s) (id : ℕ) (v : LastingView) (fits : get_elem? s.views id ≡ some v) (p : SeatedPass) (m : Memory) (one : v.passes ≡ p ∷ []) (recalled : v.memories ≡ m ∷ []) (q : SeatedPass) → v.passes ≡ q ∷ [] → planting ≡ q.planting
+planted allows t planting s kept id v fits p m one recalled q is = sym (ap (λ (g : Plot). g.planting) (own allows t planting s kept id v fits q m is recalled).1)
 
 -- what was of no use is out of reach, and gone
 unused_out : (lay : Layout) (h : History) (last : ℕ → History) (o : ℕ) (x : Record) → o < lay.passes → IsUnused lay o x (last o) → IsOutOfReach lay h last x × IsGoneRecord lay h last x
@@ -107,4 +116,49 @@ module _ (allows : Layout → History → ℕ → Type 0) (t : Lasting) (plantin
           zeros = names.zeros;
         },
         ((kept.rows, learnt allows t planting s kept id me.0 fits p m one recalled, refl), refl),
+      )
+
+  -- a node that has left with no mark, as the pass knows, at a load of any word
+  pub lasting_left : (at : ℕ) (n : NodeNo) → HasLeftUnmarked (past_of p []) n.0 → Allows (TableLasts allows t planting) slots id me at (λ v. v) (λ v w. LearnsWith allows (λ rows. memory_left m n p.known) me.0 w.0 × (w.1 ≡ me.1))
+  lasting_left at n left s kept sized fits small =
+      let h : History = history_of planting kept.rows in
+      let then : History = history_of planting p.known in
+      let names = (well allows t planting s kept id me.0 fits p m one recalled).names in
+      let within : Extends h then = behind_known allows t planting s kept id me.0 fits p m one recalled in
+      let here : HasLeftUnmarked then n.0 = subst (λ (g : Plot). HasLeftUnmarked (history_of g.planting p.known) n.0) (own allows t planting s kept id me.0 fits p m one recalled).1 left in (
+        record { passes = aware allows t planting s kept id me.0 fits p m one recalled ∷ []; memories = memory_left m n p.known ∷ [] },
+        keeps,
+        tt,
+        noted allows t planting stays s kept id me.0 fits p m one recalled at (memory_left m n p.known) refl refl refl record {
+          dealt = names.dealt;
+          later = names.later;
+          notes = ((within, inr (inr (inl here), inr (inl (left_since t.lay h then n.0 kept.window.run within here.left)))), names.notes);
+          polls = names.polls;
+          holds = names.holds;
+          empty = names.empty;
+          zeros = names.zeros;
+        },
+        ((kept.rows, learnt allows t planting s kept id me.0 fits p m one recalled, refl), refl),
+      )
+
+  -- a load of a word of a name that an own slot holds
+  pub lasting_loads : (name : RecordNo) (u : Word) → IsIn name m.holds → record_of u ≡ record_at name → IsWord t.lay u → Allows (TableLasts allows t planting) slots id me (table_place t u) (λ v. v) (λ v w. LoadsWord allows m u v me.0 w.0 × (w.1 ≡ me.1))
+  lasting_loads name u holds of_name inside s kept sized fits small =
+      let before : Present = now allows t planting s kept id me.0 fits p m one recalled in
+      let recalls : RemembersWell t planting before p.number.0 m = well allows t planting s kept id me.0 fits p m one recalled in
+      let mine : IsHeldName t p.number.0 before name = in_each (IsHeldName t p.number.0 before) name m.holds holds recalls.names.holds in
+      let shown : slice_index s.words (table_place t u) ≡ value (history_of planting kept.rows) u = kept.window.shows u inside (subst (IsHeld t kept.held) (sym of_name) mine.1) in (
+        record { passes = aware allows t planting s kept id me.0 fits p m one recalled ∷ []; memories = m ∷ [] },
+        keeps,
+        tt,
+        noted allows t planting stays s kept id me.0 fits p m one recalled (table_place t u) m refl refl refl recalls.names,
+        (
+          record {
+            rows = kept.rows;
+            learnt = learnt allows t planting s kept id me.0 fits p m one recalled;
+            memory = refl;
+            value = λ q is. subst (λ (g : PlantingView). value (history_of g kept.rows) u ≡ slice_index s.words (table_place t u)) (planted allows t planting s kept id me.0 fits p m one recalled q is) (sym shown);
+          },
+          refl,
+        ),
       )

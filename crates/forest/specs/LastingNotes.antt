@@ -1,6 +1,6 @@
 -- What a pass of a table that lasts comes to remember: of its rests and those of others, and of names.
 use Rattle.std.specs.Prelude.{◌≡◌, ◌≢◌, ◌<◌, ◌⊎◌, ◌*◌, ◌/◌, ◌%◌, ◌==◌, if◌then◌else◌, ℕ, suc, true, false, List, [], ◌∷◌, Option, Some, None}
-use Rattle.histories.specs.Common.{Layout, Row, History, Extends, ScxNo}
+use Rattle.histories.specs.Common.{Layout, Row, History, Extends, ScxNo, NodeNo}
 use Rattle.planting.specs.Plantings.{PlantingView}
 use Rattle.resting.specs.Dead.{IsUnborn, IsUnnamedScx}
 use Rattle.resting.specs.Records.{Record, the_node, the_scx}
@@ -11,7 +11,7 @@ use Rattle.forest.specs.declared.lasting_view.NoteView.{NoteView}
 use Rattle.forest.specs.declared.lasting_view.NoteView.TheVariants.{MarkedOrDead, DeadBy, OutOfReach, DoneWith}
 use Rattle.forest.specs.declared.lasting_view.Polled.{Polled}
 use Rattle.forest.specs.declared.lasting_view.RecordNo.{RecordNo}
-use Rattle.forest.specs.declared.lasting_view.RecordNo.TheVariants.{Scx}
+use Rattle.forest.specs.declared.lasting_view.RecordNo.TheVariants.{Scx, Node}
 use Rattle.forest.specs.declared.view.SeatedPass.{SeatedPass}
 
 -- a note of a name
@@ -80,6 +80,10 @@ memory_noted m chosen rows = record m { notes = further_all rows chosen m.notes 
 -- what is remembered of a look at the mark of a name that is held, which was n, after these rows
 abbrev pub memory_marked : Memory → RecordNo → (n : ℕ) → List Row → Memory
 memory_marked m name n rows = if n == 0 then m else record m { notes = noted_as name (MarkedOrDead rows) ∷ m.notes }
+
+-- what is remembered of a node that had left with no mark after these rows
+abbrev pub memory_left : Memory → NodeNo → List Row → Memory
+memory_left m n rows = record m { notes = noted_as (Node n) (MarkedOrDead rows) ∷ m.notes }
 
 -- The name is the pass's own, taken as it rested, and by then was no node that was ever put in, and
 -- no SCX-record that an info had named, which was finished.

@@ -4,7 +4,7 @@ use Rattle.std.specs.Prelude.{◌≡◌, ◌++◌, ℕ, false, List, [], ◌∷�
 use mathlib.Core.Option.{some}
 use lib.ListN.{get_elem?}
 use Rattle.atomic_table.specs.Table.{State}
-use Rattle.histories.specs.Common.{Layout, Row, History, Extends, IsRun}
+use Rattle.histories.specs.Common.{Layout, Row, History, Extends, IsRun, Word, value}
 use Rattle.planting.specs.Plantings.{PlantingView}
 use Rattle.resting.specs.Records.{record_of}
 use Rattle.slots.specs.Counts.{CountsRests, Tally}
@@ -66,6 +66,14 @@ pub record HasLearnt (allows : Layout → History → ℕ → Type 0) (ps : List
 -- So has the pass of a seat that remembers m; and it remembers by then what `after` makes of the run.
 abbrev pub LearnsWith : (Layout → History → ℕ → Type 0) → (List Row → Memory) → LastingView → LastingView → Type 0
 LearnsWith allows after v w = (rows : List Row) × HasLearnt allows v.passes rows w.passes × (w.memories ≡ after rows ∷ [])
+
+-- The only pass of a seat has come to know the run, and remembers what it did; and in that run the
+-- word was n.
+pub record LoadsWord (allows : Layout → History → ℕ → Type 0) (m : Memory) (u : Word) (n : ℕ) (v w : LastingView) : Type 0 where
+  pub rows : List Row
+  pub learnt : HasLearnt allows v.passes rows w.passes
+  pub memory : w.memories ≡ m ∷ []
+  pub value : (p : SeatedPass) → v.passes ≡ p ∷ [] → value (history_of p.planting rows) u ≡ n
 
 -- The only pass of a seat has come to know the run, and has gone on by rows of its own; then it
 -- remembers what `after` makes of the run.

@@ -20,15 +20,15 @@ ghost use Rattle.planting.specs.Plantings.{PlantingView};
 ghost use Rattle.prims.specs.Moments.{AreFinished};
 ghost use Rattle.prims.specs.Shares.{IsShare};
 ghost use Rattle.touching.specs.Kinds.{IsInTree};
-ghost use Rattle.resting.specs.Dead.{WasDoneWith};
+ghost use Rattle.resting.specs.Dead.{HasLeftUnmarked, WasDoneWith};
 ghost use Rattle.resting.specs.Records.{record_of, the_node};
 ghost use Rattle.slots.specs.Counts.{rests_place};
 ghost use Rattle.slots.specs.Held.{IsHeld};
 ghost use Rattle.slots.specs.Lasting.{Lasting, table_place};
 ghost use Rattle.forest.specs.LastingMemory.{record_at};
 ghost use Rattle.forest.specs.LastingNames.{MayTake, memory_with_node, memory_with_scx, node_ahead, past_nodes, past_scxs, scx_ahead};
-ghost use Rattle.forest.specs.LastingNotes.{HasRestedSince, IsBefore, IsIn, IsUnused, memory_away, memory_done, memory_looked, memory_looked_at, memory_marked, memory_noted, memory_over, memory_polled, memory_rested, memory_unused, noted_as};
-ghost use Rattle.forest.specs.LastingRule.{GoesOnWith, LearnsWith, MayStepOn, TableLasts};
+ghost use Rattle.forest.specs.LastingNotes.{memory_left, HasRestedSince, IsBefore, IsIn, IsUnused, memory_away, memory_done, memory_looked, memory_looked_at, memory_marked, memory_noted, memory_over, memory_polled, memory_rested, memory_unused, noted_as};
+ghost use Rattle.forest.specs.LastingRule.{LoadsWord, GoesOnWith, LearnsWith, MayStepOn, TableLasts};
 ghost use Rattle.forest.specs.LastingSlots.{WasTaken, IsLastDealt, IsLeft, memory_cleared, memory_given_back, memory_let_go};
 ghost use Rattle.forest.specs.LastingViews.{OpensLasting, first_of_view, first_view, joined_view, no_view, rest_of_view};
 ghost use Rattle.forest.specs.Passes.{Each};
@@ -182,9 +182,9 @@ pub fn seats_last<S: Shape>()
         → Joins (TableLasts S.allows t planting) id v other w (joined_view v w) no_view }
 {}
 
-/// A pass sees that a name that a slot of its own holds is marked; and notes that a name is out of
-/// reach that was of no use to it as it rested. It does nothing; a caller learns this from its
-/// contract.
+/// A pass loads words of the names that its own slots hold, and sees which nodes are marked; it notes
+/// which have left with no mark, as it knows, and that a name is out of reach that was of no use to it
+/// as it rested. It does nothing; a caller learns this from its contract.
 pub fn sights_last<S: Shape>()
     ensures marks { (t : Lasting) (planting : PlantingView) (slots id : ℕ) (me : Me ℕ LastingView)
         (p : SeatedPass) (m : Memory) (node : NodeNo) → me.0.passes ≡ p ∷ []
@@ -193,6 +193,19 @@ pub fn sights_last<S: Shape>()
         → Allows (TableLasts S.allows t planting) slots id me
         (table_place t (Word.Node node NodeWord.Marked)) (λ n. n)
         (λ n w. LearnsWith S.allows (memory_marked m (RecordNo.Node node) n) me.0 w.0
+        × (w.1 ≡ me.1)) }
+    ensures loads { (t : Lasting) (planting : PlantingView) (slots id : ℕ) (me : Me ℕ LastingView)
+        (p : SeatedPass) (m : Memory) (name : RecordNo) (word : Word) → me.0.passes ≡ p ∷ []
+        → me.0.memories ≡ m ∷ [] → p.number.0 < t.lay.passes → IsIn name m.holds
+        → record_of word ≡ record_at name → IsWord t.lay word
+        → Allows (TableLasts S.allows t planting) slots id me (table_place t word) (λ n. n)
+        (λ n w. LoadsWord S.allows m word n me.0 w.0 × (w.1 ≡ me.1)) }
+    ensures left { (t : Lasting) (planting : PlantingView) (slots id : ℕ) (me : Me ℕ LastingView)
+        (p : SeatedPass) (m : Memory) (at : ℕ) (node : NodeNo) → me.0.passes ≡ p ∷ []
+        → me.0.memories ≡ m ∷ [] → p.number.0 < t.lay.passes
+        → HasLeftUnmarked (past_of p []) node.0
+        → Allows (TableLasts S.allows t planting) slots id me at (λ n. n)
+        (λ n w. LearnsWith S.allows (λ rows. memory_left m node p.known) me.0 w.0
         × (w.1 ≡ me.1)) }
     ensures unused { (t : Lasting) (planting : PlantingView) (slots id : ℕ)
         (me : Me ℕ LastingView) (p : SeatedPass) (m : Memory) (at : ℕ) (name : RecordNo)
