@@ -5,7 +5,7 @@ ghost use Rattle.forest.specs.Passes.{IsOf};
 
 use crate::fault::Fault;
 use crate::pair::Pair;
-use crate::repetition::{Repetition, nanos_since, now, numbered, sum};
+use crate::repetition::{Repetition, now, numbered};
 use crate::round::rounds;
 use crate::tally::Tally;
 use crate::task::Task;
@@ -27,11 +27,7 @@ pub fn run<R: Threads + Sync + Clock + AllocGlobal>(
     let passes = numbered(rt.alloc(), &forest, passes)?;
     let start = now(rt)?;
     let tallies = crowd(rt, &forest, task.calls, work, passes)?;
-    let nanos = nanos_since(rt, start)?;
-    Ok(Repetition {
-        nanos,
-        tally: sum(&tallies),
-    })
+    Repetition::since(rt, start, &tallies)
 }
 
 /// A forest with a pass for each thread. Shares are whole ones whatever the calls, so that runs of

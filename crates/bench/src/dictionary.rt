@@ -6,7 +6,7 @@ ghost use Rattle.forest.specs.Passes.{IsOf};
 use crate::call::{Numbers, rounds};
 use crate::fault::Fault;
 use crate::keys::Keys;
-use crate::repetition::{Repetition, nanos_since, now, numbered, sum};
+use crate::repetition::{Repetition, now, numbered};
 use crate::tally::Tally;
 use crate::task::Task;
 use crate::work::MapWork;
@@ -31,11 +31,7 @@ pub fn run<R: Threads + Sync + Clock + AllocGlobal, B: FixedBalance + Send>(
     let passes = numbered(rt.alloc(), &forest, passes)?;
     let start = now(rt)?;
     let tallies = crowd(rt, rt.alloc(), &forest, task, work, passes)?;
-    let nanos = nanos_since(rt, start)?;
-    Ok(Repetition {
-        nanos,
-        tally: sum(&tallies),
-    })
+    Repetition::since(rt, start, &tallies)
 }
 
 /// A dictionary with a pass for each thread, and after these the passes that fill it. Shares are

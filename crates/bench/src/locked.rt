@@ -6,7 +6,7 @@ use crate::call::{told, told_pair, told_pairs};
 use crate::fault::Fault;
 use crate::keys::{Draw, Keys};
 use crate::load::{loaded, looks_of};
-use crate::repetition::{Repetition, nanos_since, now, sum};
+use crate::repetition::{Repetition, nanos_since, now};
 use crate::tally::{End, Tally};
 use crate::task::Task;
 use crate::work::MapWork;
@@ -34,11 +34,7 @@ pub fn run<R: Threads + Wait + Sync + Clock + AllocGlobal>(
     let numbers = numbers(rt.alloc(), task.threads)?;
     let start = now(rt)?;
     let tallies = crowd(rt, rt.alloc(), &map, task, work, numbers)?;
-    let nanos = nanos_since(rt, start)?;
-    Ok(Repetition {
-        nanos,
-        tally: sum(&tallies),
-    })
+    Repetition::since(rt, start, &tallies)
 }
 
 /// Makes a map of as many pairs as the task has rounds, which is timed, and looks some up.

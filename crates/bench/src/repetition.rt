@@ -26,6 +26,19 @@ pub struct Repetition {
     pub tally: Tally,
 }
 
+impl Repetition {
+    /// That of the threads that have started then, and have ended so by now.
+    pub fn since<C: Clock>(
+        clock: &C,
+        start: Instant,
+        tallies: &[Tally],
+    ) -> Result<Repetition, Fault> {
+        let nanos = nanos_since(clock, start)?;
+        let tally = sum(tallies);
+        Ok(Repetition { nanos, tally })
+    }
+}
+
 /// Makes a forest or a map, and lets the threads work in it. The making is timed where it is the
 /// work.
 pub fn run<R: Threads + Wait + Sync + Clock + AllocGlobal>(
@@ -61,7 +74,7 @@ pub fn numbered<S: Shape>(
     Ok(all)
 }
 
-pub fn sum(tallies: &[Tally]) -> Tally {
+fn sum(tallies: &[Tally]) -> Tally {
     let mut all = Tally::default();
     for tally in tallies {
         all.add(*tally);
