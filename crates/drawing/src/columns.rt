@@ -21,8 +21,8 @@ pub(crate) struct Group {
     pub(crate) first: u64,
     pub(crate) count: u64,
     pub(crate) turn: ShownTurn,
-    pub(crate) left: f64,
-    pub(crate) right: f64,
+    left: f64,
+    right: f64,
     /// Whether its last turn ends a call.
     is_last: bool,
 }
@@ -51,8 +51,16 @@ impl Group {
         }
     }
 
+    pub(crate) fn left(&self) -> f64 {
+        self.left
+    }
+
     pub(crate) fn middle(&self) -> f64 {
         (self.left + self.right) / 2.0
+    }
+
+    pub(crate) fn width(&self) -> f64 {
+        self.right - self.left
     }
 
     /// Whether it can continue with one more turn of it.

@@ -197,8 +197,8 @@ fn draw_bar(canvas: &mut Canvas, group: &Group, row: &arena::Row, at: Spot) {
         (" loads", 4.0)
     };
     let told = [count, Text(name), Text(" from turn "), first, Text(" on")];
-    let corner = Spot::at(group.left + 1.0, at.y - high / 2.0);
-    let size = Spot::at(group.right - group.left - 2.0, high);
+    let corner = Spot::at(group.left() + 1.0, at.y - high / 2.0);
+    let size = Spot::at(group.width() - 2.0, high);
     canvas.rectangle(corner, size, &[Text("bar")], &told);
     draw_below(canvas, at, &[count]);
 }
@@ -267,8 +267,8 @@ fn draw_help(canvas: &mut Canvas, group: &Group, owner: PassNo, at: Spot) {
 
 /// Tints the place of a step that helps the client of this number, from there downwards.
 fn tint(canvas: &mut Canvas, group: &Group, colour: &str, number: u64, top: f64) {
-    let corner = Spot::at(group.left, top);
-    let size = Spot::at(group.right - group.left, BOX);
+    let corner = Spot::at(group.left(), top);
+    let size = Spot::at(group.width(), BOX);
     let told = [Text("helps client "), Number(number)];
     canvas.rectangle(corner, size, &[Text(colour), Text(" help")], &told);
 }

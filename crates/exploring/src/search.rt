@@ -103,11 +103,11 @@ impl Exploration {
         self.played = self.played.saturating_add(1);
         let mut branches = Branches::of(alloc, &record, begun)?;
         for branch in mem::replace(&mut branches.beside, Vec::new(alloc)) {
-            self.keep(branch, most)?;
+            self.keep(branch, most, false)?;
         }
         for branch in mem::replace(&mut branches.above, Vec::new(alloc)) {
             if branch.interruptions <= interruptions {
-                self.keep_for_later(branch, most)?;
+                self.keep(branch, most, true)?;
             }
         }
         let is_new = self.note(alloc, &record, begun.interruptions, branches)?;
@@ -120,20 +120,14 @@ impl Exploration {
         most <= waiting.saturating_add(self.played)
     }
 
-    fn keep(&mut self, branch: Begun, most: u64) -> Result<(), AllocError> {
+    /// Keeps a schedule to be played, now or later, if not too many wait.
+    fn keep(&mut self, branch: Begun, most: u64, later: bool) -> Result<(), AllocError> {
         if self.is_full(most) {
             self.left = self.left.saturating_add(1);
+        } else if later {
+            self.later.push(branch)?;
         } else {
             self.now.push(branch)?;
-        }
-        Ok(())
-    }
-
-    fn keep_for_later(&mut self, branch: Begun, most: u64) -> Result<(), AllocError> {
-        if self.is_full(most) {
-            self.left = self.left.saturating_add(1);
-        } else {
-            self.later.push(branch)?;
         }
         Ok(())
     }
