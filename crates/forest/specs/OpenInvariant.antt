@@ -49,8 +49,8 @@ pass_as p s = record {
 abbrev pub next_call : (p : PassView) → p.number < p.layout.passes → Call
 next_call p is_pass = record { layout = p.layout; pass = p.number; is_pass = is_pass; number = taken_of p; start = run_of p }
 
--- a call keeps what its pass had as it began: its number, its layout, which call comes next, and the
--- list of what it blames
+-- a call keeps what its pass had as it began: its number, its layout, which call comes next, and
+-- the list of what it blames
 pub record KeepsPass (began : PassView) (n : ℕ) (lay : Layout) (next : ℕ) (blames : List ℕ) : Type 0 where
   pub number : n ≡ began.number
   pub layout : lay ≡ began.layout

@@ -16,8 +16,8 @@ pub record Lasting : Type 0 where
   pub scx_turn : ℕ
   pub laps : ℕ
 
--- The two layouts are alike, but that each pass owns as many names more as there are in `laps` laps;
--- and all nodes, and all SCX-records, have slots of their own.
+-- The two layouts are alike, but that each pass owns as many names more as there are in `laps`
+-- laps; and all nodes, and all SCX-records, have slots of their own.
 pub record IsLasting (t : Lasting) : Type 0 where
   pub mode : t.lay.mode ≡ t.table.mode
   pub passes : t.lay.passes ≡ t.table.passes
