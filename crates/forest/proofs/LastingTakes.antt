@@ -57,7 +57,8 @@ module _ (t : Lasting) (held : Held) (slot x : Record) (none : held slot ≡ Non
       go (yes e) = inl (let q : Some x ≡ Some y = sym (with_same held slot (Some x)) ∙ ap with_x (sym e) ∙ is in cc)
       go (no d) = inr (sym (with_other held slot (slot_of t y) (Some x) d) ∙ is)
 
--- It may give the slot this name, once the run has gone on to these rows; then it remembers so much.
+-- It may give the slot this name, once the run has gone on to these rows; then it remembers so
+-- much.
 module _ (allows : Layout → History → ℕ → Type 0) (t : Lasting) (planting : PlantingView) (stays : StaysUnborn t.lay) (s : State ℕ LastingView) (kept : TableLasts allows t planting s) (id : ℕ) (v : LastingView) (fits : get_elem? s.views id ≡ some v) (p : SeatedPass) (m : Memory) (one : v.passes ≡ p ∷ []) (recalled : v.memories ≡ m ∷ []) (at : ℕ) (left : Remaining) (name slot : RecordNo) (nodes_to scx_to : ℕ) (may : MayTake t p m left name slot) where
   abbrev o : ℕ
   o = p.number.0

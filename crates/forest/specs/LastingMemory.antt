@@ -36,8 +36,8 @@ pub record Present : Type 0 where
 abbrev pub present : List ℕ → History → (ℕ → History) → Held → Tally → Present
 present words run last held tally = record { words = words; run = run; last = last; held = held; tally = tally }
 
--- The node is final, has left, or was never put in as its pass rested. So it is not in the tree, and
--- never comes there any more.
+-- The node is final, has left, or was never put in as its pass rested. So it is not in the tree,
+-- and never comes there any more.
 abbrev pub IsGone : Layout → History → (ℕ → History) → ℕ → Type 0
 IsGone lay h last n = (is_final (log lay h) n ≡ true) ⊎ (HasLeft h n ⊎ ((p : ℕ) × (p < lay.passes) × IsUnborn lay p (last p) n))
 

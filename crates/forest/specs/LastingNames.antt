@@ -48,8 +48,8 @@ node_ahead m count = Node record { 0 = m.nodes_to + count }
 abbrev pub scx_ahead : Memory → ℕ → RecordNo
 scx_ahead m count = Scx record { 0 = m.scx_to + count }
 
--- What is remembered once the slot holds the name, and names up to these two are dealt: the pass has
--- rested, after these rows.
+-- What is remembered once the slot holds the name, and names up to these two are dealt: the pass
+-- has rested, after these rows.
 abbrev pub memory_with : Memory → (name slot : RecordNo) → (nodes_to scx_to : ℕ) → List Row → Memory
 memory_with m name slot nodes_to scx_to rows = record m {
   rested = rows;
@@ -67,8 +67,9 @@ memory_with_node m count slot = memory_with m (node_ahead m count) slot (m.nodes
 abbrev pub memory_with_scx : Memory → (count : ℕ) → RecordNo → List Row → Memory
 memory_with_scx m count slot = memory_with m (scx_ahead m count) slot m.nodes_to (m.scx_to + suc count)
 
--- A pass that is there and between two calls, which has so much left of its share, may give the slot
--- the name: it is its own, and this its slot, which holds nothing, and all words of which are 0.
+-- A pass that is there and between two calls, which has so much left of its share, may give the
+-- slot the name: it is its own, and this its slot, which holds nothing, and all words of which are
+-- 0.
 pub record MayTake (t : Lasting) (p : SeatedPass) (m : Memory) (left : Remaining) (name slot : RecordNo) : Type 0 where
   pub is_pass : p.number.0 < t.lay.passes
   pub there : m.away ≡ false

@@ -1,4 +1,5 @@
--- What a pass of a table that lasts comes to remember: of its rests and those of others, and of names.
+-- What a pass of a table that lasts comes to remember: of its rests and those of others, and of
+-- names.
 use Rattle.std.specs.Prelude.{◌≡◌, ◌≢◌, ◌<◌, ◌⊎◌, ◌*◌, ◌/◌, ◌%◌, ◌==◌, if◌then◌else◌, ℕ, suc, true, false, List, [], ◌∷◌, Option, Some, None}
 use Rattle.histories.specs.Common.{Layout, Row, History, Extends, ScxNo, NodeNo}
 use Rattle.planting.specs.Plantings.{PlantingView}
@@ -34,7 +35,8 @@ waits_of n = if n % 2 == 0 then Some (n / 2) else None
 abbrev pub memory_looked : Memory → ℕ → ℕ → List Row → Memory
 memory_looked m q n rows = record m { polls = record { pass = record { 0 = q }; since = rows; waits = waits_of n } ∷ m.polls }
 
--- what is remembered of a look at the word, that was n, of the pass of a poll that had rested so often
+-- what is remembered of a look at the word, that was n, of the pass of a poll that had rested so
+-- often
 abbrev pub memory_polled : Memory → Polled → (seen n : ℕ) → Memory
 memory_polled m poll seen n = if n == 2 * seen then m else record m { polls = record poll { waits = None } ∷ m.polls }
 
@@ -60,8 +62,8 @@ IsBefore planting moment (DeadBy rows) = Extends moment (history_of planting row
 IsBefore planting moment OutOfReach = Unit {0}
 IsBefore planting moment (DoneWith j) = Unit {0}
 
--- how a note goes on when all have rested: what was marked or dead is dead by now, and what was dead
--- is out of reach
+-- how a note goes on when all have rested: what was marked or dead is dead by now, and what was
+-- dead is out of reach
 abbrev pub further : List Row → NoteView → NoteView
 further rows (MarkedOrDead old) = DeadBy rows
 further rows (DeadBy old) = OutOfReach

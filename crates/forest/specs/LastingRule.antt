@@ -44,8 +44,8 @@ pub record TableLasts (allows : Layout → History → ℕ → Type 0) (t : Last
 abbrev pub TakesDealt : (Layout → History → ℕ → Type 0) → CallStep → SeatedPass → Memory → Type 0
 TakesDealt allows said p m = (others : List Row) → ByOthers p.number.0 others → IsRun allows p.layout (past_of p others) → IsUntaken p.layout (past_of p others) (record_of said.step.word) → IsOwnRecord p.layout p.number.0 (record_of said.step.word) → IsDealt m (record_of said.step.word)
 
--- A pass that remembers so much may make the step: it is there, and the step is lawful, and one of a
--- map's call that began when it had rested last, or later; and it takes names that are dealt.
+-- A pass that remembers so much may make the step: it is there, and the step is lawful, and one of
+-- a map's call that began when it had rested last, or later; and it takes names that are dealt.
 pub record MayStepOn (allows : Layout → History → ℕ → Type 0) (said : CallStep) (p : SeatedPass) (m : Memory) : Type 0 where
   pub may : MayStep allows said p
   pub of_call : IsOfMapCall allows said p
@@ -63,7 +63,8 @@ pub record HasLearnt (allows : Layout → History → ℕ → Type 0) (ps : List
   pub run : IsRun allows pass.layout (past_of pass others)
   pub is : qs ≡ seated_pass pass.number.0 pass.layout pass.planting rows ∷ []
 
--- So has the pass of a seat that remembers m; and it remembers by then what `after` makes of the run.
+-- So has the pass of a seat that remembers m; and it remembers by then what `after` makes of the
+-- run.
 abbrev pub LearnsWith : (Layout → History → ℕ → Type 0) → (List Row → Memory) → LastingView → LastingView → Type 0
 LearnsWith allows after v w = (rows : List Row) × HasLearnt allows v.passes rows w.passes × (w.memories ≡ after rows ∷ [])
 
