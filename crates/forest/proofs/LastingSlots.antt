@@ -80,7 +80,7 @@ dealt_same t m name (the_node n) d = d
 dealt_same t m name (the_scx s) d = d
 
 -- what is left of a share, nobody has taken
-left_untaken : (lay : Layout) (h : History) (o : ℕ) (left : Remaining) (x : Record) → IsOwnRecord lay o x → IsLeft left x → IsShare lay h o left left.next_node left.next_scx → IsUntaken lay h x
+pub left_untaken : (lay : Layout) (h : History) (o : ℕ) (left : Remaining) (x : Record) → IsOwnRecord lay o x → IsLeft left x → IsShare lay h o left left.next_node left.next_scx → IsUntaken lay h x
 left_untaken lay h o left (the_node n) own is_left share = ((let a = own.from in omega (arith, a)), share.untaken_nodes n is_left)
 left_untaken lay h o left (the_scx s) own is_left share = ((λ e. let a = own.from in omega (arith, a, e)), share.untaken s is_left)
 

@@ -148,12 +148,25 @@ pub fn slots_last<S: Shape>()
     unborn_stays_out();
 }
 
-/// A pass gives a clean slot its next name, and passes over names on the way; and so a table opens.
-/// It does nothing; a caller learns this from its contract.
+/// How a table opens. A pass gives a clean slot the name behind those that are dealt; or a later
+/// one, if it has taken all that are, and passes over those on the way. It does nothing; a caller
+/// learns this from its contract.
 pub fn names_last<S: Shape>()
     ensures opens { (t : Lasting) (planting : PlantingView)
         (words : List ℕ) → OpensLasting S.allows t planting words
         → TableLasts S.allows t planting (opening words [] (first_view t planting)) }
+    ensures next_node { (t : Lasting) (planting : PlantingView) (slots id : ℕ)
+        (me : Me ℕ LastingView) (p : SeatedPass) (m : Memory) (at : ℕ) (left : Remaining)
+        (slot : RecordNo) → me.0.passes ≡ p ∷ [] → me.0.memories ≡ m ∷ []
+        → MayTake t p m left (node_ahead m 0) slot → IsLeft left (record_at (node_ahead m 0))
+        → Allows (TableLasts S.allows t planting) slots id me at (λ n. n)
+        (λ n w. LearnsWith S.allows (memory_with_node m 0 slot) me.0 w.0 × (w.1 ≡ me.1)) }
+    ensures next_scx { (t : Lasting) (planting : PlantingView) (slots id : ℕ)
+        (me : Me ℕ LastingView) (p : SeatedPass) (m : Memory) (at : ℕ) (left : Remaining)
+        (slot : RecordNo) → me.0.passes ≡ p ∷ [] → me.0.memories ≡ m ∷ []
+        → MayTake t p m left (scx_ahead m 0) slot → IsLeft left (record_at (scx_ahead m 0))
+        → Allows (TableLasts S.allows t planting) slots id me at (λ n. n)
+        (λ n w. LearnsWith S.allows (memory_with_scx m 0 slot) me.0 w.0 × (w.1 ≡ me.1)) }
     ensures nodes { (t : Lasting) (planting : PlantingView)
         (slots id : ℕ) (me : Me ℕ LastingView) (p : SeatedPass) (m : Memory) (at count : ℕ)
         (left : Remaining) (slot : RecordNo) → me.0.passes ≡ p ∷ []
