@@ -124,7 +124,8 @@ module _ (t : Lasting) (planting : PlantingView) (a b : Present) where
   remember_kept ok f rows owner id is (p ∷ ps) [] own y = y
   remember_kept ok f rows owner id is (p ∷ ps) (m ∷ ms) own y = (f p.number.0 m (is p.number.0 own.0) y.0, remember_kept ok f rows owner id is ps ms own.4 y.1)
 
--- Views after the seat `id` has got the view w: what it holds of is shown, and what others have is kept
+-- Views after the seat `id` has got the view w: what it holds of is shown, and what others have is
+-- kept
 module _ (P Q : ℕ → LastingView → Type 0) (views : List LastingView) (id : ℕ) (w : LastingView) (mine : Q id w) (others : (j : ℕ) (v : LastingView) → j ≢ id → get_elem? views j ≡ some v → P j v → Q j v) (all : (j : ℕ) (v : LastingView) → get_elem? views j ≡ some v → P j v) where
   pub views_kept : (j : ℕ) (v : LastingView) → get_elem? (slice_set views id w) j ≡ some v → Q j v
   views_kept j v e = ⊎_elim

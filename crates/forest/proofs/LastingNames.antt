@@ -38,7 +38,8 @@ module _ (allows : Layout → History → ℕ → Type 0) (t : Lasting) (plantin
   abbrev h : History
   h = history_of planting start
 
-  -- they keep a run, each pass's rest, the counts, what others have seen of them, and what others know
+  -- they keep a run, each pass's rest, the counts, what others have seen of them, and what others
+  -- know
   pub record GoesOn (rows : List Row) : Type 0 where
     pub sound : IsRun allows t.lay (history_of planting rows)
     pub within : Extends (history_of planting rows) h
@@ -61,8 +62,8 @@ module _ (allows : Layout → History → ℕ → Type 0) (t : Lasting) (plantin
         grows = λ j apart ps y. owns_more (plot_in t planting) rows owner j r (λ z. apart (sym z ∙ owned)) ps (x.grows j apart ps y);
       }
 
-  -- The pass may give a slot the name x next: nobody has taken that, and of the pass's own that it has
-  -- dealt by then each other one that is untaken was dealt before.
+  -- The pass may give a slot the name x next: nobody has taken that, and of the pass's own that it
+  -- has dealt by then each other one that is untaken was dealt before.
   pub record IsReady (x : Record) (old new : Memory) (rows : List Row) : Type 0 where
     pub goes : GoesOn rows
     pub run : IsMapRun t.lay (history_of planting rows)

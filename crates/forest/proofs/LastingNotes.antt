@@ -66,9 +66,9 @@ module _ (lay : Layout) (planting : PlantingView) (known : Periods lay) (o : ℕ
     notes_go_on notes (c ∷ cs) so chosen = (note_goes_on (record_at c.name) c.note chosen.0.1 (in_each (λ n. IsNoteSo lay planting o a (record_at n.name) n.note) c notes chosen.0.0 so), notes_go_on notes cs so chosen.1)
 
 -- a pass that has polled all others has rested itself, and so have they
-rested_since : (t : Lasting) (planting : PlantingView) (a : Present) (m : Memory) (snapshot : List Row) → Each (IsPollSo t.lay planting a) m.polls → (o : ℕ) → Extends (a.last o) (history_of planting snapshot) → ((q : ℕ) → q < t.lay.passes → q ≢ o → IsIn (rested_poll q snapshot) m.polls) → (q : ℕ) → q < t.lay.passes → Dec (q ≡ o) → Extends (a.last q) (history_of planting snapshot)
+rested_since : (t : Lasting) (planting : PlantingView) (a : Present) (m : Memory) (snapshot : List Row) → Each (IsPollSo t.lay planting a) m.polls → (o : ℕ) → Extends (a.last o) (history_of planting snapshot) → ((q : ℕ) → q < t.lay.passes → q ≢ o → (since : List Row) × IsIn (rested_poll q since) m.polls × Extends (history_of planting since) (history_of planting snapshot)) → (q : ℕ) → q < t.lay.passes → Dec (q ≡ o) → Extends (a.last q) (history_of planting snapshot)
 rested_since t planting a m snapshot polls o own_rest others q i (yes e) = subst (λ k. Extends (a.last k) (history_of planting snapshot)) (sym e) own_rest
-rested_since t planting a m snapshot polls o own_rest others q i (no d) = (in_each (IsPollSo t.lay planting a) (rested_poll q snapshot) m.polls (others q i d) polls).1
+rested_since t planting a m snapshot polls o own_rest others q i (no d) = let poll = others q i d in ends_trans (a.last q) (history_of planting poll.0) (history_of planting snapshot) (in_each (IsPollSo t.lay planting a) (rested_poll q poll.0) m.polls poll.1 polls).1 poll.2
 
 module _ (allows : Layout → History → ℕ → Type 0) (t : Lasting) (planting : PlantingView) (stays : StaysUnborn t.lay) (known : Periods t.lay) (slots id : ℕ) (me : Me ℕ LastingView) (p : SeatedPass) (m : Memory) (one : me.0.passes ≡ p ∷ []) (recalled : me.0.memories ≡ m ∷ []) where
   -- all have rested since the snapshot: these notes go on, at a load of any word
@@ -81,7 +81,7 @@ module _ (allows : Layout → History → ℕ → Type 0) (t : Lasting) (plantin
       let same : p.planting ≡ planting = ap (λ (g : Plot). g.planting) owned.1 in
       let start : History = history_of planting snapshot in
       let own_rest : Extends (kept.last o) start = subst (λ k. Extends k start) (sym (recalls.rested all.there)) (subst (λ g. Extends (history_of g m.rested) (history_of g snapshot)) same all.own) in
-      let since : AreSince t.lay kept.last start = λ q i. rested_since t planting before m snapshot recalls.names.polls o own_rest (λ k j d. all.others k j d) q i (ℕ_discrete q o) in
+      let since : AreSince t.lay kept.last start = λ q i. rested_since t planting before m snapshot recalls.names.polls o own_rest (λ k j d. let poll = all.others k j d in (poll.0, poll.1, subst (λ g. Extends (history_of g poll.0) (history_of g snapshot)) same poll.2)) q i (ℕ_discrete q o) in
       let names = recalls.names in (
         record { passes = aware allows t planting s kept id me.0 fits p m one recalled ∷ []; memories = memory_noted m chosen kept.rows ∷ [] },
         keeps,

@@ -80,7 +80,7 @@ dealt_same t m name (the_node n) d = d
 dealt_same t m name (the_scx s) d = d
 
 -- what is left of a share, nobody has taken
-left_untaken : (lay : Layout) (h : History) (o : ℕ) (left : Remaining) (x : Record) → IsOwnRecord lay o x → IsLeft left x → IsShare lay h o left left.next_node left.next_scx → IsUntaken lay h x
+pub left_untaken : (lay : Layout) (h : History) (o : ℕ) (left : Remaining) (x : Record) → IsOwnRecord lay o x → IsLeft left x → IsShare lay h o left left.next_node left.next_scx → IsUntaken lay h x
 left_untaken lay h o left (the_node n) own is_left share = ((let a = own.from in omega (arith, a)), share.untaken_nodes n is_left)
 left_untaken lay h o left (the_scx s) own is_left share = ((λ e. let a = own.from in omega (arith, a, e)), share.untaken s is_left)
 
@@ -104,7 +104,8 @@ module _ (t : Lasting) (held : Held) (x : Record) (is : IsHeld t held x) where
       go (yes e) = ap (with_slot held (slot_of t x) None) e ∙ with_same held (slot_of t x) None
       go (no d) = with_other held (slot_of t x) s None d ∙ none
 
--- The slot of the name x, which is held, holds nothing from now on; names up to these two are dealt.
+-- The slot of the name x, which is held, holds nothing from now on; names up to these two are
+-- dealt.
 module _ (allows : Layout → History → ℕ → Type 0) (t : Lasting) (planting : PlantingView) (stays : StaysUnborn t.lay) (s : State ℕ LastingView) (kept : TableLasts allows t planting s) (id : ℕ) (v : LastingView) (fits : get_elem? s.views id ≡ some v) (p : SeatedPass) (m : Memory) (one : v.passes ≡ p ∷ []) (recalled : v.memories ≡ m ∷ []) (at : ℕ) (name : RecordNo) (nodes_to scx_to : ℕ)
     (mine : IsHeldName t p.number.0 (now allows t planting s kept id v fits p m one recalled) name)
     (reason : IsUntaken t.lay (history_of planting kept.rows) (record_at name) ⊎ IsOutOfReach t.lay (history_of planting kept.rows) kept.last (record_at name))

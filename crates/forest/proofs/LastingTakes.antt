@@ -16,11 +16,12 @@ use Rattle.slots.specs.Held.{Held, IsHeld, same_record, with_slot}
 use Rattle.slots.specs.Lasting.{IsOwnRecord, IsUntaken, Lasting, slot_of}
 use Rattle.slots.specs.Window.{IsWindow}
 use Rattle.slots.proofs.Lemmas.{none_passed, passes_over, record_discrete, rest_other, rest_same, seen_moves, takes, with_other, with_same}
+use Rattle.forest.specs.LastingSlots.{IsLeft}
 use Rattle.forest.specs.Passes.{Each}
 use Rattle.forest.specs.TableRule.{Owns, history_of, seated_pass}
 use Rattle.forest.specs.LastingMemory.{AreHeldOrGone, IsDealt, IsEmptySlot, IsGone, IsZeroWord, Present, RemembersNames, RemembersWell, present, record_at}
 use Rattle.forest.specs.LastingNames.{MayTake, memory_with, memory_with_node, memory_with_scx, node_ahead, past_nodes, past_scxs, scx_ahead, without_words}
-use Rattle.forest.specs.LastingRule.{GoesOnWith, TableLasts, plot_in}
+use Rattle.forest.specs.LastingRule.{GoesOnWith, TableLasts, plot_in, LearnsWith}
 use Rattle.forest.specs.declared.lasting_view.LastingView.{LastingView}
 use Rattle.forest.specs.declared.lasting_view.Memory.{Memory}
 use Rattle.forest.specs.declared.lasting_view.RecordNo.{RecordNo}
@@ -30,8 +31,8 @@ use Rattle.forest.proofs.LastingKept.{Later, Spares, StaysUnborn, each_kept, gon
 use Rattle.forest.proofs.LastingGhosts.{as_loaded, goes_on, in_each, seen_by}
 use Rattle.forest.proofs.LastingNames.{GoesOn, IsReady, PassedNodes, PassedScx, passes_all_scx, passes_nodes}
 use Rattle.forest.proofs.LastingRests.{moves_now}
-use Rattle.forest.proofs.LastingSeats.{now, over, own, share_now, well}
-use Rattle.forest.proofs.LastingSlots.{each_without, one_record_owner, same_self}
+use Rattle.forest.proofs.LastingSeats.{now, over, own, share_now, well, aware, learnt}
+use Rattle.forest.proofs.LastingSlots.{each_without, one_record_owner, same_self, left_untaken}
 
 each_without_words : (P Q : Word → Type 0) (x : Record) → ((w : Word) → ¬ (record_of w ≡ x) → P w → Q w) → (ws : List Word) → Each P ws → Each Q (without_words x ws)
 each_without_words P Q x f [] y = tt
@@ -57,7 +58,8 @@ module _ (t : Lasting) (held : Held) (slot x : Record) (none : held slot ≡ Non
       go (yes e) = inl (let q : Some x ≡ Some y = sym (with_same held slot (Some x)) ∙ ap with_x (sym e) ∙ is in cc)
       go (no d) = inr (sym (with_other held slot (slot_of t y) (Some x) d) ∙ is)
 
--- It may give the slot this name, once the run has gone on to these rows; then it remembers so much.
+-- It may give the slot this name, once the run has gone on to these rows; then it remembers so
+-- much.
 module _ (allows : Layout → History → ℕ → Type 0) (t : Lasting) (planting : PlantingView) (stays : StaysUnborn t.lay) (s : State ℕ LastingView) (kept : TableLasts allows t planting s) (id : ℕ) (v : LastingView) (fits : get_elem? s.views id ≡ some v) (p : SeatedPass) (m : Memory) (one : v.passes ≡ p ∷ []) (recalled : v.memories ≡ m ∷ []) (at : ℕ) (left : Remaining) (name slot : RecordNo) (nodes_to scx_to : ℕ) (may : MayTake t p m left name slot) where
   abbrev o : ℕ
   o = p.number.0
@@ -336,3 +338,58 @@ module _ (allows : Layout → History → ℕ → Type 0) (t : Lasting) (plantin
         itself = omega arith;
         others = λ n z. inl (passed.others n z);
       }
+
+-- The name behind those that are dealt, of which some may be left, with none passed over.
+module _ (allows : Layout → History → ℕ → Type 0) (t : Lasting) (planting : PlantingView) (stays : StaysUnborn t.lay) (slots id : ℕ) (me : Me ℕ LastingView) (p : SeatedPass) (m : Memory) (one : me.0.passes ≡ p ∷ []) (recalled : me.0.memories ≡ m ∷ []) (at : ℕ) (left : Remaining) (slot : RecordNo) where
+  next_taken : (name : RecordNo) (nodes_to scx_to : ℕ) → MayTake t p m left name slot → IsLeft left (record_at name)
+      → ((rows : List Row) (y : Record) → IsDealt (memory_with m name slot nodes_to scx_to rows) y → (y ≡ record_at name) ⊎ IsDealt m y)
+      → ((rows : List Row) (y : Record) → ¬ IsDealt (memory_with m name slot nodes_to scx_to rows) y → ¬ IsDealt m y)
+      → ((rows : List Row) → IsDealt (memory_with m name slot nodes_to scx_to rows) (record_at name))
+      → Allows (TableLasts allows t planting) slots id me at (λ n. n) (λ n w. LearnsWith allows (memory_with m name slot nodes_to scx_to) me.0 w.0 × (w.1 ≡ me.1))
+  next_taken name nodes_to scx_to may is_left dealt undealt itself s kept sized fits small = (
+    record { passes = aware allows t planting s kept id me.0 fits p m one recalled ∷ []; memories = memory_with m name slot nodes_to scx_to kept.rows ∷ [] },
+    keeps,
+    tt,
+    name_taken allows t planting stays s kept id me.0 fits p m one recalled at left name slot nodes_to scx_to may kept.rows record {
+      goes = goes_now allows t planting stays s kept id me.0 fits p m one recalled at left name slot nodes_to scx_to may;
+      run = kept.window.run;
+      over = over allows t planting s kept id me.0 fits p m one recalled may.over;
+      passed = none_passed t kept.held kept.last p.number.0 (history_of planting kept.rows);
+      free = left_untaken t.lay (history_of planting kept.rows) p.number.0 left (record_at name) may.own.0 is_left (its_share allows t planting stays s kept id me.0 fits p m one recalled at left name slot nodes_to scx_to may);
+      dealt = λ y its_own d free. dealt kept.rows y d;
+      undealt = undealt kept.rows;
+      itself = itself kept.rows;
+      others = λ n z. inl z;
+    },
+    ((kept.rows, learnt allows t planting s kept id me.0 fits p m one recalled, refl), refl),
+  )
+
+  pub lasting_next_node : MayTake t p m left (node_ahead m 0) slot → IsLeft left (record_at (node_ahead m 0)) → Allows (TableLasts allows t planting) slots id me at (λ n. n) (λ n w. LearnsWith allows (memory_with_node m 0 slot) me.0 w.0 × (w.1 ≡ me.1))
+  lasting_next_node may is_left = next_taken (node_ahead m 0) (m.nodes_to + 1) m.scx_to may is_left dealt undealt (λ rows. omega arith)
+    where
+      dealt : (rows : List Row) (y : Record) → IsDealt (memory_with_node m 0 slot rows) y → (y ≡ the_node (m.nodes_to + 0)) ⊎ IsDealt m y
+      dealt rows (the_node n) d = go (dec_lt n m.nodes_to)
+        where
+          go : Dec (n < m.nodes_to) → (the_node n ≡ the_node (m.nodes_to + 0)) ⊎ (n < m.nodes_to)
+          go (yes less) = inr less
+          go (no more) = inl (ap the_node (omega (arith, d, more)))
+      dealt rows (the_scx i) d = inr d
+
+      undealt : (rows : List Row) (y : Record) → ¬ IsDealt (memory_with_node m 0 slot rows) y → ¬ IsDealt m y
+      undealt rows (the_node n) d z = d (omega (arith, z))
+      undealt rows (the_scx i) d z = d z
+
+  pub lasting_next_scx : MayTake t p m left (scx_ahead m 0) slot → IsLeft left (record_at (scx_ahead m 0)) → Allows (TableLasts allows t planting) slots id me at (λ n. n) (λ n w. LearnsWith allows (memory_with_scx m 0 slot) me.0 w.0 × (w.1 ≡ me.1))
+  lasting_next_scx may is_left = next_taken (scx_ahead m 0) m.nodes_to (m.scx_to + 1) may is_left dealt undealt (λ rows. omega arith)
+    where
+      dealt : (rows : List Row) (y : Record) → IsDealt (memory_with_scx m 0 slot rows) y → (y ≡ the_scx (m.scx_to + 0)) ⊎ IsDealt m y
+      dealt rows (the_scx n) d = go (dec_lt n m.scx_to)
+        where
+          go : Dec (n < m.scx_to) → (the_scx n ≡ the_scx (m.scx_to + 0)) ⊎ (n < m.scx_to)
+          go (yes less) = inr less
+          go (no more) = inl (ap the_scx (omega (arith, d, more)))
+      dealt rows (the_node i) d = inr d
+
+      undealt : (rows : List Row) (y : Record) → ¬ IsDealt (memory_with_scx m 0 slot rows) y → ¬ IsDealt m y
+      undealt rows (the_scx n) d z = d (omega (arith, z))
+      undealt rows (the_node i) d z = d z

@@ -49,11 +49,12 @@ IsIn x (y ∷ ys) = (x ≡ y) ⊎ IsIn x ys
 abbrev pub rested_poll : ℕ → List Row → Polled
 rested_poll q rows = record { pass = record { 0 = q }; since = rows; waits = None }
 
--- The pass is there, and has rested since these rows, and it has polled that so has each other.
+-- The pass is there, and has rested since these rows, and it has polled that so has each other,
+-- each since a moment of its own.
 pub record HasRestedSince (lay : Layout) (p : SeatedPass) (m : Memory) (rows : List Row) : Type 0 where
   pub there : m.away ≡ false
   pub own : Extends (history_of p.planting m.rested) (history_of p.planting rows)
-  pub others : (q : ℕ) → q < lay.passes → q ≢ p.number.0 → IsIn (rested_poll q rows) m.polls
+  pub others : (q : ℕ) → q < lay.passes → q ≢ p.number.0 → (since : List Row) × IsIn (rested_poll q since) m.polls × Extends (history_of p.planting since) (history_of p.planting rows)
 
 -- the note is of that moment, or of one before
 abbrev pub IsBefore : PlantingView → History → NoteView → Type 0

@@ -99,7 +99,8 @@ pub fn looks_last<S: Shape>()
         (slots id : ℕ) (me : Me ℕ LastingView) (p : SeatedPass) (m : Memory) (poll : Polled)
         (seen : ℕ) → me.0.passes ≡ p ∷ [] → me.0.memories ≡ m ∷ []
         → IsIn poll m.polls → poll.waits ≡ Some seen
-        → Allows (TableLasts S.allows t planting) slots id me (rests_place t.table poll.pass.0) (λ n. n)
+        → Allows (TableLasts S.allows t planting) slots id me (rests_place t.table poll.pass.0)
+        (λ n. n)
         (λ n w. LearnsWith S.allows (λ rows. memory_polled m poll seen n) me.0 w.0
         × (w.1 ≡ me.1)) }
     ensures notes { (t : Lasting) (planting : PlantingView)
@@ -116,9 +117,9 @@ pub fn looks_last<S: Shape>()
     notes_hold();
 }
 
-/// A slot whose record is out of reach holds nothing from now on, nor does that of the last name that
-/// is dealt, if it is given back; and the words of such a slot are stored 0. It does nothing; a caller
-/// learns this from its contract.
+/// A slot whose record is out of reach holds nothing from now on, nor does that of the last name
+/// that is dealt, if it is given back; and the words of such a slot are stored 0. It does nothing;
+/// a caller learns this from its contract.
 pub fn slots_last<S: Shape>()
     ensures lets_go { (t : Lasting)
         (planting : PlantingView) (slots id : ℕ) (me : Me ℕ LastingView) (p : SeatedPass)
@@ -147,12 +148,25 @@ pub fn slots_last<S: Shape>()
     unborn_stays_out();
 }
 
-/// A pass gives a clean slot its next name, and passes over names on the way; and so a table opens.
-/// It does nothing; a caller learns this from its contract.
+/// How a table opens. A pass gives a clean slot the name behind those that are dealt; or a later
+/// one, if it has taken all that are, and passes over those on the way. It does nothing; a caller
+/// learns this from its contract.
 pub fn names_last<S: Shape>()
     ensures opens { (t : Lasting) (planting : PlantingView)
         (words : List ℕ) → OpensLasting S.allows t planting words
         → TableLasts S.allows t planting (opening words [] (first_view t planting)) }
+    ensures next_node { (t : Lasting) (planting : PlantingView) (slots id : ℕ)
+        (me : Me ℕ LastingView) (p : SeatedPass) (m : Memory) (at : ℕ) (left : Remaining)
+        (slot : RecordNo) → me.0.passes ≡ p ∷ [] → me.0.memories ≡ m ∷ []
+        → MayTake t p m left (node_ahead m 0) slot → IsLeft left (record_at (node_ahead m 0))
+        → Allows (TableLasts S.allows t planting) slots id me at (λ n. n)
+        (λ n w. LearnsWith S.allows (memory_with_node m 0 slot) me.0 w.0 × (w.1 ≡ me.1)) }
+    ensures next_scx { (t : Lasting) (planting : PlantingView) (slots id : ℕ)
+        (me : Me ℕ LastingView) (p : SeatedPass) (m : Memory) (at : ℕ) (left : Remaining)
+        (slot : RecordNo) → me.0.passes ≡ p ∷ [] → me.0.memories ≡ m ∷ []
+        → MayTake t p m left (scx_ahead m 0) slot → IsLeft left (record_at (scx_ahead m 0))
+        → Allows (TableLasts S.allows t planting) slots id me at (λ n. n)
+        (λ n w. LearnsWith S.allows (memory_with_scx m 0 slot) me.0 w.0 × (w.1 ≡ me.1)) }
     ensures nodes { (t : Lasting) (planting : PlantingView)
         (slots id : ℕ) (me : Me ℕ LastingView) (p : SeatedPass) (m : Memory) (at count : ℕ)
         (left : Remaining) (slot : RecordNo) → me.0.passes ≡ p ∷ []
@@ -173,8 +187,8 @@ pub fn names_last<S: Shape>()
     unborn_stays_out();
 }
 
-/// The first pass of a seat goes to a seat of its own, and a seat takes in the passes of another. It
-/// does nothing; a caller learns this from its contract.
+/// The first pass of a seat goes to a seat of its own, and a seat takes in the passes of another.
+/// It does nothing; a caller learns this from its contract.
 pub fn seats_last<S: Shape>()
     ensures deals { (t : Lasting) (planting : PlantingView) (id : ℕ) (v : LastingView)
         → Splits (TableLasts S.allows t planting) id v (rest_of_view v) (first_of_view v) }
@@ -182,9 +196,9 @@ pub fn seats_last<S: Shape>()
         → Joins (TableLasts S.allows t planting) id v other w (joined_view v w) no_view }
 {}
 
-/// A pass loads words of the names that its own slots hold, and sees which nodes are marked; it notes
-/// which have left with no mark, as it knows, and that a name is out of reach that was of no use to it
-/// as it rested. It does nothing; a caller learns this from its contract.
+/// A pass loads words of the names that its own slots hold, and sees which nodes are marked; it
+/// notes which have left with no mark, as it knows, and that a name is out of reach that was of no
+/// use to it as it rested. It does nothing; a caller learns this from its contract.
 pub fn sights_last<S: Shape>()
     ensures marks { (t : Lasting) (planting : PlantingView) (slots id : ℕ) (me : Me ℕ LastingView)
         (p : SeatedPass) (m : Memory) (node : NodeNo) → me.0.passes ≡ p ∷ []
@@ -218,10 +232,10 @@ pub fn sights_last<S: Shape>()
     unborn_stays_out();
 }
 
-/// A pass that is between two calls sees when an SCX-record of its own is dead. For each node that it
-/// covers a look at the place of the node's info tells that it is done with that, whoever is there, if
-/// another is named; or the pass knows it, as where it is committed and finalizes the node. It does
-/// nothing; a caller learns this from its contract.
+/// A pass that is between two calls sees when an SCX-record of its own is dead. For each node that
+/// it covers a look at the place of the node's info tells that it is done with that, whoever is
+/// there, if another is named; or the pass knows it, as where it is committed and finalizes the
+/// node. It does nothing; a caller learns this from its contract.
 pub fn finished_last<S: Shape>()
     ensures looks { (t : Lasting) (planting : PlantingView) (slots id : ℕ) (me : Me ℕ LastingView)
         (p : SeatedPass) (m : Memory) (s : ScxNo) (j n : ℕ) → me.0.passes ≡ p ∷ []
@@ -251,8 +265,8 @@ pub fn finished_last<S: Shape>()
     dead_comes_back();
 }
 
-/// Each node of the tree is held, and its words are those of the run, whatever has come back. It does
-/// nothing; a caller learns this from its contract.
+/// Each node of the tree is held, and its words are those of the run, whatever has come back. It
+/// does nothing; a caller learns this from its contract.
 pub fn trees_last<S: Shape>()
     ensures held { (t : Lasting) (planting : PlantingView) (s : State ℕ LastingView)
         (x : TableLasts S.allows t planting s) (n : ℕ)

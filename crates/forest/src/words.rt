@@ -48,8 +48,8 @@ impl<S: Shape> Words<S> {
         Ok((Words { table }, seat))
     }
 
-    /// Makes the step of a call that is said, which is at this place, and answers what a machine gets
-    /// of it. The rule of this table does not ask of which call it is.
+    /// Makes the step of a call that is said, which is at this place, and answers what a machine
+    /// gets of it. The rule of this table does not ask of which call it is.
     #[inline(always)]
     pub(crate) fn make<J: Says>(
         &self,

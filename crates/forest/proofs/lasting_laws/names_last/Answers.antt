@@ -1,5 +1,5 @@
 use Rattle.forest.proofs.LastingOpens.{lasting_opens}
-use Rattle.forest.proofs.LastingTakes.{lasting_nodes, lasting_scx}
+use Rattle.forest.proofs.LastingTakes.{lasting_next_node, lasting_next_scx, lasting_nodes, lasting_scx}
 use Rattle.forest.proofs.lasting_laws.names_last.Goals as goal
 
 pub returns-clause-opens : goal.returns-clause-opens
@@ -10,3 +10,9 @@ returns-clause-nodes g c = λ t planting slots id me p m at count left slot one 
 
 pub returns-clause-scx : goal.returns-clause-scx
 returns-clause-scx g c = λ t planting slots id me p m at count left slot one recalled. lasting_scx g.S.Shape.allows t planting (λ h o rest n. c.unborn_stays_out.ensures.stays t.lay h o rest n) slots id me p m one recalled at count left slot
+
+pub returns-clause-next_node : goal.returns-clause-next_node
+returns-clause-next_node g c = λ t planting slots id me p m at left slot one recalled. lasting_next_node g.S.Shape.allows t planting (λ h o rest n. c.unborn_stays_out.ensures.stays t.lay h o rest n) slots id me p m one recalled at left slot
+
+pub returns-clause-next_scx : goal.returns-clause-next_scx
+returns-clause-next_scx g c = λ t planting slots id me p m at left slot one recalled. lasting_next_scx g.S.Shape.allows t planting (λ h o rest n. c.unborn_stays_out.ensures.stays t.lay h o rest n) slots id me p m one recalled at left slot
