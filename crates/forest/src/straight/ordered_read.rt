@@ -385,10 +385,10 @@ fn look_next<S: Shape, M: CallMachine<S>, R: Read + Drop>(
     }
 }
 
-/// Makes what is left of a try, which is the VLX once no node is left. Out of line, so that the
-/// turns before it are put together as if there were nothing else.
+/// Makes what is left of a try turn by turn. Out of line, so that what is left after the turns put
+/// together is as small as the VLX.
 #[inline(never)]
-fn rest<S: Shape, M: CallMachine<S>, R: Read + Drop>(
+fn rest_by_turns<S: Shape, M: CallMachine<S>, R: Read + Drop>(
     hand: Hand<S>,
     seat: &mut Seat<u8, SeatView>,
     run: &mut ReadRun<R>,
@@ -415,6 +415,26 @@ fn rest<S: Shape, M: CallMachine<S>, R: Read + Drop>(
             },
             ReadNext::Validate => return validate_on::<S, M, R>(hand, seat, run),
         }
+    }
+}
+
+/// Makes what is left of a try, which is the VLX as a rule. Out of line, so that the turns before it
+/// are put together as if there were nothing else.
+#[inline(never)]
+fn rest<S: Shape, M: CallMachine<S>, R: Read + Drop>(
+    hand: Hand<S>,
+    seat: &mut Seat<u8, SeatView>,
+    run: &mut ReadRun<R>,
+    next: ReadNext,
+) -> Result<R::Answer, Refused>
+    requires table { IsAt hand seat.old }
+    requires waits { StandsToRead S.Shape M.Machine R.means hand seat.old run.old next }
+    ensures { ReadEnds S.Shape M.Machine R.means hand.entry
+        seat.old run.old next seat.new run.new result }
+{
+    match next {
+        ReadNext::Validate => validate_on::<S, M, R>(hand, seat, run),
+        _ => rest_by_turns::<S, M, R>(hand, seat, run, next),
     }
 }
 

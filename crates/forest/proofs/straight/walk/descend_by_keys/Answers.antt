@@ -1,4 +1,4 @@
-use Rattle.std.proofs.Common.{◌+◌, ◌≤◌, ◌∙◌, refl, arith}
+use Rattle.std.proofs.Common.{◌∙◌, refl, arith}
 use Rattle.forest.specs.Traces.{shared_nodes}
 use Rattle.template.specs.Walk.Places.{way_at}
 use Rattle.template.specs.Walk.Steps.{room}

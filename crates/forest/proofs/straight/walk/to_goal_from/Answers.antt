@@ -1,10 +1,10 @@
-use Rattle.std.proofs.Common.{◌+◌, ◌≤◌, ◌∙◌, refl, sym, subst, arith}
+use Rattle.std.proofs.Common.{◌∙◌, refl, sym, subst, arith}
 use Rattle.histories.specs.Common.{head_of}
 use Rattle.forest.specs.StraightWalk.{Walker, WalkerHasHead, WalkerIsAt}
 use Rattle.forest.specs.Traces.{shared_nodes}
 use Rattle.forest.specs.CallKinds.{calls}
 use Rattle.template.specs.Walk.Places.{way_at, LoadsHead}
-use Rattle.template.specs.Walk.Steps.{room, walk_left}
+use Rattle.template.specs.Walk.Steps.{room}
 use Rattle.forest.proofs.StraightWalk.{fits, fewer, some_left}
 use Rattle.forest.proofs.straight.walk.to_goal_from.Given.{Over}
 use Rattle.forest.proofs.straight.walk.to_goal_from.Goals.{After-read-head}

@@ -4,7 +4,7 @@ use Rattle.forest.specs.Traces.{shared_nodes}
 use Rattle.template.specs.Balance.{nodes_by}
 use Rattle.order.specs.Places.{placed}
 use Rattle.order.specs.Steps.{read_left}
-use Rattle.forest.proofs.straight.ordered_read.rest.Given as goal
+use Rattle.forest.proofs.straight.ordered_read.rest_by_turns.Given as goal
 
 abbrev pub invariant-loop-next : goal.invariant-loop-next
 invariant-loop-next g l = record {
