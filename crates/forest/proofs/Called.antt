@@ -1,7 +1,7 @@
 -- What holds of each own row of a call, as that it carries the number of the call.
 use Rattle.std.proofs.Common.{◌≡◌, ℕ, zero, suc, ◌≤◌, inl, inr, List, [], ◌∷◌, ◌++◌, refl, sym, subst, arith}
 use Rattle.histories.specs.Common.{Layout, Row, Step, History, Opened, ◌⊳◌, Extends, Call, row_of}
-use Rattle.arena.proofs.Lemmas.{ends_trans}
+use Rattle.arena.proofs.Lemmas.{ends_self, ends_trans}
 use Rattle.forest.specs.TableRule.{history_of, ByOthers}
 use Rattle.forest.specs.Traces.{Trace, begins, others, makes, goes_on}
 use Rattle.forest.specs.Passes.{AreOfCall, HoldsOfOwn}
@@ -35,7 +35,14 @@ module _ (P : Row → Type 0) (c : ℕ) (start : History) where
   own_others planting [] known by x = x
   own_others planting (r ∷ rs) known by x = own_more (history_of planting (rs ++ known)) r (λ e. absurd (by.0 e)) (own_others planting rs known by.1 x)
 
--- the rows that were added in a call
+-- the rows that were added in a call extend its start
+pub course_since : {M : Type 0} {allows : Layout → History → ℕ → Type 0} {waits : M → Call → History → Step → Type 0} {same : M → M → Type 0} (c : Call) {first : M} (m : M) (h : History) → Trace allows waits same c first m h → Extends h c.start
+course_since c m h (begins e k) = subst (λ g. Extends g c.start) (sym k) (ends_self c.start)
+course_since c m h (others s r g e w other run x) = subst (λ k. Extends k c.start) (sym e) (inr (course_since c m g x))
+course_since c m h (makes s g e w run x) = subst (λ k. Extends k c.start) (sym e) (inr (course_since c m g x))
+course_since c m h (goes_on old is x) = course_since c old h x
+
+-- and carry its number
 pub course_calls : {M : Type 0} {allows : Layout → History → ℕ → Type 0} {waits : M → Call → History → Step → Type 0} {same : M → M → Type 0} (c : Call) {first : M} (m : M) (h : History) → Trace allows waits same c first m h → AreOfCall c.pass c.number c.start h
 course_calls c m h (begins e k) = subst (AreOfCall c.pass c.number c.start) (sym k) (own_start (λ r. r.call ≡ c.number) c.pass c.start)
 course_calls c m h (others s r g e w other run x) = subst (AreOfCall c.pass c.number c.start) (sym e) (own_more (λ r. r.call ≡ c.number) c.pass c.start g r (λ own. absurd (other own)) (course_calls c m g x))

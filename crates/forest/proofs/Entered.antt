@@ -1,6 +1,6 @@
 -- What a pass has entered since the start of a call, and what the call leaves of the pass, if
 -- both are known of the call's end alone, without its course.
-use Rattle.std.proofs.Common.{◌≡◌, ◌≢◌, ◌≤◌, ◌+◌, ℕ, inl, inr, List, ◌∷◌, [], Option, refl, sym, ◌∙◌, ap, subst, arith}
+use Rattle.std.proofs.Common.{◌≡◌, ◌≢◌, ◌≤◌, ◌+◌, ℕ, inl, inr, List, ◌∷◌, Option, refl, sym, ◌∙◌, ap, subst, arith}
 use Rattle.atomic_table.specs.declared.shared.Seat.{Seat}
 use Rattle.histories.specs.Common.{Layout, Mode, Row, Step, Remaining, History, Opened, ◌⊳◌, Extends, IsOwnScx, HasWon, IsWin, Lawful, log, owner, Call, IsRun, descriptor}
 use Rattle.arena.proofs.Lemmas.{ends_self, ends_trans, owner_is}
@@ -11,15 +11,15 @@ use Rattle.edits.specs.Known.{HasMade, RestsWith}
 use Rattle.edits.specs.Tries.{HasEnteredNone}
 use Rattle.forest.specs.declared.view.SeatView.{SeatView}
 use Rattle.forest.specs.declared.pass.Pass.TheInside.{Inside}
-use Rattle.forest.specs.TableRule.{history_of, seated_pass}
-use Rattle.forest.specs.Traces.{Trace, HoldsForCall, begins, others, makes, goes_on, known_of, seat_steps, planting_of, run_at}
+use Rattle.forest.specs.TableRule.{history_of}
+use Rattle.forest.specs.Traces.{IsSeated, Trace, HoldsForCall, seat_steps, run_at}
 use Rattle.forest.specs.Shares.{IsBetweenCalls, entries_of}
 use Rattle.forest.specs.Passes.{AreOfCall, HasBlamed, HasGoneOn, IsLaterView, run_of}
 use Rattle.forest.specs.PassInvariant.{pass_view, IsPass}
 use Rattle.forest.proofs.Frames.{entry_mine, entry_others}
-use Rattle.forest.proofs.Called.{course_calls}
+use Rattle.forest.proofs.Called.{course_calls, course_since}
 use Rattle.forest.proofs.Passes.{call_of, can_use_later, steps_are}
-use Rattle.forest.proofs.Advances.{seat_back}
+use Rattle.forest.proofs.Advances.{call_back}
 
 -- Entries
 
@@ -80,16 +80,9 @@ one_entered c h l m =
 pub rests_between : (c : Call) (h : History) (left : Remaining) → RestsWith c h left → IsBetweenCalls c.layout c.pass h left
 rests_between c h left x = record { share = x.share; over = over_begins c.layout c.pass left.next_scx h x.over }
 
--- the rows that were added in a call extend its start
-pub course_since : {M : Type 0} {allows : Layout → History → ℕ → Type 0} {waits : M → Call → History → Step → Type 0} {same : M → M → Type 0} (c : Call) {first : M} (m : M) (h : History) → Trace allows waits same c first m h → Extends h c.start
-course_since c m h (begins e k) = subst (λ g. Extends g c.start) (sym k) (ends_self c.start)
-course_since c m h (others s r g e w other run x) = subst (λ k. Extends k c.start) (sym e) (inr (course_since c m g x))
-course_since c m h (makes s g e w run x) = subst (λ k. Extends k c.start) (sym e) (inr (course_since c m g x))
-course_since c m h (goes_on old is x) = course_since c old h x
-
 -- a call of any machine has ended, and A holds of the run that its pass knows now
 pub record HasEnded (allows : Layout → History → ℕ → Type 0) {T : Type 0} (p : Inside T) (s : Seat ℕ SeatView) (number : ℕ) (A : History → Type 0) : Type 0 where
-  pub seat : s.me.0.passes ≡ seated_pass p.number.0 p.layout (planting_of s.me.0.passes) (known_of s.me.0.passes) ∷ []
+  pub seat : IsSeated p.number.0 p.layout s.me.0.passes
   pub sound : IsRun allows p.layout (run_at s.me.0.passes)
   pub since : Extends (run_at s.me.0.passes) (run_at p.seat.me.0.passes)
   pub answers : A (run_at s.me.0.passes)
@@ -97,9 +90,9 @@ pub record HasEnded (allows : Layout → History → ℕ → Type 0) {T : Type 0
 
 pub ended : {allows : Layout → History → ℕ → Type 0} {mode : Mode} {T : Type 0} (p : Inside T) (x : IsPass allows mode p) (s : Seat ℕ SeatView) (number : ℕ) {M : Type 0} (waits : M → Call → History → Step → Type 0) (same : M → M → Type 0) (first m : M) (A : History → Type 0) → HoldsForCall allows s.me.0.passes (call_of p x number) (λ h. A h × Trace allows waits same (call_of p x number) first m h) → HasEnded allows p s number A
 ended {allows} p x s number waits same first m A y =
-    let run : history_of y.planting y.known ≡ run_at s.me.0.passes = sym (ap run_at y.is) in
+    let run : history_of y.planting y.known ≡ run_at s.me.0.passes = sym (ap run_at y.is.alone) in
     record {
-      seat = seat_back s.me.0.passes p.number.0 p.layout y.planting y.known y.is;
+      seat = call_back s.me.0.passes (call_of p x number) y.planting y.known y.is (course_since (call_of p x number) m _ y.so.1);
       sound = subst (IsRun allows p.layout) run y.sound;
       since = subst (λ h. Extends h (run_at p.seat.me.0.passes)) run (course_since (call_of p x number) m _ y.so.1);
       answers = subst A run y.so.0;

@@ -139,7 +139,7 @@ module _ (allows : Layout → History → ℕ → Type 0) (t : Lasting) (plantin
     abbrev before : Present
     before = now allows t planting st kept id me.0 fits p m one recalled
 
-    recalls : RemembersWell t planting before p.number.0 m
+    recalls : RemembersWell t planting before p.number.0 p.rested m
     recalls = well allows t planting st kept id me.0 fits p m one recalled
 
     mine : IsHeldName t p.number.0 before (Scx s)
@@ -187,14 +187,14 @@ module _ (allows : Layout → History → ℕ → Type 0) (t : Lasting) (plantin
         record { passes = aware allows t planting st kept id me.0 fits p m one recalled ∷ []; memories = m ∷ [] },
         keeps,
         tt,
-        noted allows t planting stays st kept id me.0 fits p m one recalled at m refl refl refl (recalls st kept fits).names,
+        noted allows t planting stays st kept id me.0 fits p m one recalled at m refl refl (recalls st kept fits).names,
         ((kept.rows, learnt allows t planting st kept id me.0 fits p m one recalled, rw (eq-eqb found s.0 e) refl), refl),
       )
       go (no d) = (
         record { passes = aware allows t planting st kept id me.0 fits p m one recalled ∷ []; memories = record m { notes = noted_as (Scx s) (DoneWith j) ∷ m.notes } ∷ [] },
         keeps,
         tt,
-        noted allows t planting stays st kept id me.0 fits p m one recalled at record m { notes = noted_as (Scx s) (DoneWith j) ∷ m.notes } refl refl refl
+        noted allows t planting stays st kept id me.0 fits p m one recalled at record m { notes = noted_as (Scx s) (DoneWith j) ∷ m.notes } refl refl
             (with_note st kept fits (noted_as (Scx s) (DoneWith j)) (done_with allows t planting stays st kept s.0 j n (real st kept fits) (finished st kept fits) (member_kept st kept fits j ∙ is) d)),
         ((kept.rows, learnt allows t planting st kept id me.0 fits p m one recalled, rw (ne_eqb found s.0 d) refl), refl),
       )
@@ -208,7 +208,7 @@ module _ (allows : Layout → History → ℕ → Type 0) (t : Lasting) (plantin
         record { passes = aware allows t planting st kept id me.0 fits p m one recalled ∷ []; memories = memory_done m s j ∷ [] },
         keeps,
         tt,
-        noted allows t planting stays st kept id me.0 fits p m one recalled at (memory_done m s j) refl refl refl (with_note st kept fits (noted_as (Scx s) (DoneWith j)) so),
+        noted allows t planting stays st kept id me.0 fits p m one recalled at (memory_done m s j) refl refl (with_note st kept fits (noted_as (Scx s) (DoneWith j)) so),
         ((kept.rows, learnt allows t planting st kept id me.0 fits p m one recalled, refl), refl),
       )
 
@@ -221,6 +221,6 @@ module _ (allows : Layout → History → ℕ → Type 0) (t : Lasting) (plantin
         record { passes = aware allows t planting st kept id me.0 fits p m one recalled ∷ []; memories = memory_over m s kept.rows ∷ [] },
         keeps,
         tt,
-        noted allows t planting stays st kept id me.0 fits p m one recalled at (memory_over m s kept.rows) refl refl refl (with_note st kept fits (noted_as (Scx s) (MarkedOrDead kept.rows)) (ends_self h, inr (dead, tt))),
+        noted allows t planting stays st kept id me.0 fits p m one recalled at (memory_over m s kept.rows) refl refl (with_note st kept fits (noted_as (Scx s) (MarkedOrDead kept.rows)) (ends_self h, inr (dead, tt))),
         ((kept.rows, learnt allows t planting st kept id me.0 fits p m one recalled, refl), refl),
       )

@@ -1,5 +1,5 @@
 -- Moves that no word shows: a load, by which a pass comes to know the run, and remembers more.
-use Rattle.std.proofs.Common.{◌≡◌, ◌≢◌, ℕ, false, List, [], ◌∷◌, slice_index, slice_set, inl, inr, refl, sym, ◌∙◌, ap, subst}
+use Rattle.std.proofs.Common.{◌≡◌, ◌≢◌, ℕ, false, List, [], ◌∷◌, slice_index, slice_set, inl, inr, refl, sym, ◌∙◌, subst}
 use mathlib.Core.Option.{some}
 use lib.ListN.{get_elem?}
 use Rattle.atomic_table.specs.Table.{State}
@@ -42,30 +42,30 @@ module _ (allows : Layout → History → ℕ → Type 0) (t : Lasting) (plantin
   before = now allows t planting s kept id v fits p m one recalled
 
   -- what the table is after a load there, and what the pass remembers then
-  abbrev pub seen_by : List Row → Memory → State ℕ LastingView
-  seen_by rows after = record { words = slice_set s.words at (slice_index s.words at); homes = s.homes; views = slice_set s.views id record { passes = seated_pass p.number.0 p.layout p.planting rows ∷ []; memories = after ∷ [] } }
+  abbrev pub seen_by : (rested rows : List Row) → Memory → State ℕ LastingView
+  seen_by rested rows after = record { words = slice_set s.words at (slice_index s.words at); homes = s.homes; views = slice_set s.views id record { passes = seated_pass p.number.0 p.layout p.planting rested rows ∷ []; memories = after ∷ [] } }
 
-  module _ (words : List ℕ) (rows : List Row) (next : ℕ → History) (held : Held) (after : Memory)
+  module _ (words : List ℕ) (rested rows : List Row) (next : ℕ → History) (held : Held) (after : Memory)
       (sound : IsRun allows t.lay (history_of planting rows))
       (window : IsWindow t words (history_of planting rows) next held)
       (counts : CountsRests t words (history_of planting rows) kept.tally)
       (later : Later t before (present words (history_of planting rows) next held kept.tally))
       (rests : (q : ℕ) → q ≢ p.number.0 → kept.tally.away q ≡ false → next q ≡ kept.last q)
       (gone : AreHeldOrGone t (present words (history_of planting rows) next held kept.tally))
-      (mine : RemembersWell t planting (present words (history_of planting rows) next held kept.tally) p.number.0 after)
+      (mine : RemembersWell t planting (present words (history_of planting rows) next held kept.tally) p.number.0 rested after)
       (spares : (q : ℕ) → q ≢ p.number.0 → Spares t planting before (present words (history_of planting rows) next held kept.tally) later stays q)
       (grows : (j : ℕ) → j ≢ id → (ps : List SeatedPass) → Owns (plot_in t planting) kept.rows kept.owner j ps → Owns (plot_in t planting) rows kept.owner j ps) where
     abbrev there : Present
     there = present words (history_of planting rows) next held kept.tally
 
     abbrev w : LastingView
-    w = record { passes = seated_pass p.number.0 p.layout p.planting rows ∷ []; memories = after ∷ [] }
+    w = record { passes = seated_pass p.number.0 p.layout p.planting rested rows ∷ []; memories = after ∷ [] }
 
     owned : Owns (plot_in t planting) kept.rows kept.owner id (p ∷ [])
     owned = own allows t planting s kept id v fits p m one recalled
 
-    others : (q : ℕ) (n : Memory) → q ≢ p.number.0 → RemembersWell t planting before q n → RemembersWell t planting there q n
-    others q n d y = remembers_kept t planting before there later stays q n (spares q d) refl refl (rests q d) y
+    others : (q : ℕ) (before_rest : List Row) (n : Memory) → q ≢ p.number.0 → RemembersWell t planting before q before_rest n → RemembersWell t planting there q before_rest n
+    others q before_rest n d y = remembers_kept t planting before there later stays q before_rest n (spares q d) refl refl (rests q d) y
 
     -- the pass knows the run by then, and remembers so much
     pub goes_on : TableLasts allows t planting record { words = words; homes = s.homes; views = slice_set s.views id w }
@@ -88,22 +88,22 @@ module _ (allows : Layout → History → ℕ → Type 0) (t : Lasting) (plantin
     }
 
   -- what a load shows of words is what they were
-  pub as_loaded : (rows : List Row) (after : Memory) → TableLasts allows t planting record { words = s.words; homes = s.homes; views = slice_set s.views id record { passes = seated_pass p.number.0 p.layout p.planting rows ∷ []; memories = after ∷ [] } } → TableLasts allows t planting (seen_by rows after)
-  as_loaded rows after x = subst (λ ws. TableLasts allows t planting record { words = ws; homes = s.homes; views = slice_set s.views id record { passes = seated_pass p.number.0 p.layout p.planting rows ∷ []; memories = after ∷ [] } }) (sym (set_self s.words at)) x
+  pub as_loaded : (rested rows : List Row) (after : Memory) → TableLasts allows t planting record { words = s.words; homes = s.homes; views = slice_set s.views id record { passes = seated_pass p.number.0 p.layout p.planting rested rows ∷ []; memories = after ∷ [] } } → TableLasts allows t planting (seen_by rested rows after)
+  as_loaded rested rows after x = subst (λ ws. TableLasts allows t planting record { words = ws; homes = s.homes; views = slice_set s.views id record { passes = seated_pass p.number.0 p.layout p.planting rested rows ∷ []; memories = after ∷ [] } }) (sym (set_self s.words at)) x
 
-  recalls : RemembersWell t planting before p.number.0 m
+  recalls : RemembersWell t planting before p.number.0 p.rested m
   recalls = well allows t planting s kept id v fits p m one recalled
 
   -- a pass remembers more, and nothing else goes on
-  pub noted : (after : Memory) → after.away ≡ m.away → after.often ≡ m.often → after.rested ≡ m.rested → RemembersNames t planting before p.number.0 after → TableLasts allows t planting (seen_by kept.rows after)
-  noted after away often rested names =
+  pub noted : (after : Memory) → after.away ≡ m.away → after.often ≡ m.often → RemembersNames t planting before p.number.0 after → TableLasts allows t planting (seen_by p.rested kept.rows after)
+  noted after away often names =
       let moved = moments_stay t (history_of planting kept.rows) kept.last kept.window.rested in
       let later : Later t before before = later_moments t before kept.last kept.held moved kept.window in
-      as_loaded kept.rows after (goes_on s.words kept.rows kept.last kept.held after kept.sound kept.window kept.counts later (λ q d z. refl) kept.gone
+      as_loaded p.rested kept.rows after (goes_on s.words p.rested kept.rows kept.last kept.held after kept.sound kept.window kept.counts later (λ q d z. refl) kept.gone
       record {
         away = away ∙ recalls.away;
         often = often ∙ recalls.often;
-        rested = λ z. recalls.rested (sym away ∙ z) ∙ ap (history_of planting) (sym rested);
+        rested = λ z. recalls.rested (sym away ∙ z);
         names = names;
       }
       (λ q d. spared t planting before before later stays refl (λ u i none. refl) q)

@@ -98,8 +98,8 @@ module _ (t : Lasting) (planting : PlantingView) (a b : Present) (x : Later t a 
     zeros = each_kept _ _ z.zeros m.zeros y.zeros;
   }
 
-  pub remembers_kept : (q : ℕ) (m : Memory) → Spares q → b.tally.away q ≡ a.tally.away q → b.tally.count q ≡ a.tally.count q → (a.tally.away q ≡ false → b.last q ≡ a.last q) → RemembersWell t planting a q m → RemembersWell t planting b q m
-  remembers_kept q m z away often rests y = record {
+  pub remembers_kept : (q : ℕ) (rested : List Row) (m : Memory) → Spares q → b.tally.away q ≡ a.tally.away q → b.tally.count q ≡ a.tally.count q → (a.tally.away q ≡ false → b.last q ≡ a.last q) → RemembersWell t planting a q rested m → RemembersWell t planting b q rested m
+  remembers_kept q rested m z away often rests y = record {
     away = y.away ∙ sym away;
     often = y.often ∙ sym often;
     rested = λ there. rests (sym y.away ∙ there) ∙ y.rested there;
@@ -118,11 +118,11 @@ spared t planting a b x stays same words q = record {
 -- The seats
 
 module _ (t : Lasting) (planting : PlantingView) (a b : Present) where
-  pub remember_kept : (ok : ℕ → Type 0) → ((q : ℕ) (m : Memory) → ok q → RemembersWell t planting a q m → RemembersWell t planting b q m) → (rows : List Row) (owner : ℕ → ℕ) (id : ℕ) → ((q : ℕ) → owner q ≡ id → ok q) → (ps : List SeatedPass) (ms : List Memory) → Owns (plot_in t planting) rows owner id ps → RememberWell t planting a ps ms → RememberWell t planting b ps ms
+  pub remember_kept : (ok : ℕ → Type 0) → ((q : ℕ) (rested : List Row) (m : Memory) → ok q → RemembersWell t planting a q rested m → RemembersWell t planting b q rested m) → (rows : List Row) (owner : ℕ → ℕ) (id : ℕ) → ((q : ℕ) → owner q ≡ id → ok q) → (ps : List SeatedPass) (ms : List Memory) → Owns (plot_in t planting) rows owner id ps → RememberWell t planting a ps ms → RememberWell t planting b ps ms
   remember_kept ok f rows owner id is [] [] own y = tt
   remember_kept ok f rows owner id is [] (m ∷ ms) own y = y
   remember_kept ok f rows owner id is (p ∷ ps) [] own y = y
-  remember_kept ok f rows owner id is (p ∷ ps) (m ∷ ms) own y = (f p.number.0 m (is p.number.0 own.0) y.0, remember_kept ok f rows owner id is ps ms own.4 y.1)
+  remember_kept ok f rows owner id is (p ∷ ps) (m ∷ ms) own y = (f p.number.0 p.rested m (is p.number.0 own.0) y.0, remember_kept ok f rows owner id is ps ms own.4 y.1)
 
 -- Views after the seat `id` has got the view w: what it holds of is shown, and what others have is
 -- kept

@@ -40,7 +40,7 @@ module _ (allows : Layout → History → ℕ → Type 0) (t : Lasting) (plantin
   abbrev before : Present
   before = now allows t planting s kept id v fits p m one recalled
 
-  recalls : RemembersWell t planting before p.number.0 m
+  recalls : RemembersWell t planting before p.number.0 p.rested m
   recalls = well allows t planting s kept id v fits p m one recalled
 
   -- what has been polled of q at a moment is remembered, by moments of rests that may have moved on
@@ -61,8 +61,8 @@ module _ (allows : Layout → History → ℕ → Type 0) (t : Lasting) (plantin
     names : RemembersNames t planting there p.number.0 m
     names = names_kept t planting before there later stays p.number.0 m (spared t planting before there later stays refl (λ u i none. refl) p.number.0) recalls.names
 
-    pub remembered : TableLasts allows t planting (seen_by allows t planting stays s kept id v fits p m one recalled at kept.rows record m { polls = poll ∷ m.polls })
-    remembered = as_loaded allows t planting stays s kept id v fits p m one recalled at kept.rows record m { polls = poll ∷ m.polls } (goes_on allows t planting stays s kept id v fits p m one recalled at s.words kept.rows x.next kept.held record m { polls = poll ∷ m.polls }
+    pub remembered : TableLasts allows t planting (seen_by allows t planting stays s kept id v fits p m one recalled at p.rested kept.rows record m { polls = poll ∷ m.polls })
+    remembered = as_loaded allows t planting stays s kept id v fits p m one recalled at p.rested kept.rows record m { polls = poll ∷ m.polls } (goes_on allows t planting stays s kept id v fits p m one recalled at s.words p.rested kept.rows x.next kept.held record m { polls = poll ∷ m.polls }
         kept.sound x.window kept.counts later (λ k d. rests k)
         (all_gone t planting before there later stays refl refl kept.gone)
         record {
@@ -97,7 +97,7 @@ module _ (allows : Layout → History → ℕ → Type 0) (t : Lasting) (plantin
       poll : Polled
       poll = record { pass = record { 0 = q }; since = kept.rows; waits = waits_of found }
 
-      go : (b : Bool) → kept.tally.away q ≡ b → TableLasts allows t planting (seen_by allows t planting stays s kept id me.0 fits p m one recalled at kept.rows record m { polls = poll ∷ m.polls })
+      go : (b : Bool) → kept.tally.away q ≡ b → TableLasts allows t planting (seen_by allows t planting stays s kept id me.0 fits p m one recalled at p.rested kept.rows record m { polls = poll ∷ m.polls })
       go true e =
           let odd : found ≡ 2 * kept.tally.count q + 1 = kept.counts.holds q i ∙ ap (λ b. 2 * kept.tally.count q + bit b) e in
           let x = finds_away t s.words h kept.last kept.held kept.tally kept.window q (kept.tally.count q) kept.counts i odd in
@@ -107,7 +107,7 @@ module _ (allows : Layout → History → ℕ → Type 0) (t : Lasting) (plantin
           let even : found ≡ 2 * kept.tally.count q + 0 = kept.counts.holds q i ∙ ap (λ b. 2 * kept.tally.count q + bit b) e in
           let some_seen : waits_of found ≡ Some (kept.tally.count q) = ap waits_of even ∙ waits_even (kept.tally.count q) in
           let names = (well allows t planting s kept id me.0 fits p m one recalled).names in
-          noted allows t planting stays s kept id me.0 fits p m one recalled at record m { polls = poll ∷ m.polls } refl refl refl record {
+          noted allows t planting stays s kept id me.0 fits p m one recalled at record m { polls = poll ∷ m.polls } refl refl record {
             dealt = names.dealt;
             later = names.later;
             notes = names.notes;
@@ -133,7 +133,7 @@ module _ (allows : Layout → History → ℕ → Type 0) (t : Lasting) (plantin
       found : ℕ
       found = slice_index s.words at
 
-      recalls : RemembersWell t planting (now allows t planting s kept id me.0 fits p m one recalled) p.number.0 m
+      recalls : RemembersWell t planting (now allows t planting s kept id me.0 fits p m one recalled) p.number.0 p.rested m
       recalls = well allows t planting s kept id me.0 fits p m one recalled
 
       polled : IsPollSo t.lay planting (now allows t planting s kept id me.0 fits p m one recalled) poll
@@ -150,7 +150,7 @@ module _ (allows : Layout → History → ℕ → Type 0) (t : Lasting) (plantin
         record { passes = aware allows t planting s kept id me.0 fits p m one recalled ∷ []; memories = m ∷ [] },
         keeps,
         tt,
-        noted allows t planting stays s kept id me.0 fits p m one recalled at m refl refl refl recalls.names,
+        noted allows t planting stays s kept id me.0 fits p m one recalled at m refl refl recalls.names,
         ((kept.rows, learnt allows t planting s kept id me.0 fits p m one recalled, rw (eq-eqb found (2 * seen) e) refl), refl),
       )
       go (no d) =

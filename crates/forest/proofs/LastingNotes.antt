@@ -76,17 +76,17 @@ module _ (allows : Layout → History → ℕ → Type 0) (t : Lasting) (plantin
   lasting_notes at snapshot chosen is_pass all picked s kept sized fits small =
       let o : ℕ = p.number.0 in
       let before : Present = now allows t planting s kept id me.0 fits p m one recalled in
-      let recalls : RemembersWell t planting before o m = well allows t planting s kept id me.0 fits p m one recalled in
+      let recalls : RemembersWell t planting before o p.rested m = well allows t planting s kept id me.0 fits p m one recalled in
       let owned = own allows t planting s kept id me.0 fits p m one recalled in
       let same : p.planting ≡ planting = ap (λ (g : Plot). g.planting) owned.1 in
       let start : History = history_of planting snapshot in
-      let own_rest : Extends (kept.last o) start = subst (λ k. Extends k start) (sym (recalls.rested all.there)) (subst (λ g. Extends (history_of g m.rested) (history_of g snapshot)) same all.own) in
+      let own_rest : Extends (kept.last o) start = subst (λ k. Extends k start) (sym (recalls.rested all.there)) (subst (λ g. Extends (history_of g p.rested) (history_of g snapshot)) same all.own) in
       let since : AreSince t.lay kept.last start = λ q i. rested_since t planting before m snapshot recalls.names.polls o own_rest (λ k j d. let poll = all.others k j d in (poll.0, poll.1, subst (λ g. Extends (history_of g poll.0) (history_of g snapshot)) same poll.2)) q i (ℕ_discrete q o) in
       let names = recalls.names in (
         record { passes = aware allows t planting s kept id me.0 fits p m one recalled ∷ []; memories = memory_noted m chosen kept.rows ∷ [] },
         keeps,
         tt,
-        noted allows t planting stays s kept id me.0 fits p m one recalled at (memory_noted m chosen kept.rows) refl refl refl record {
+        noted allows t planting stays s kept id me.0 fits p m one recalled at (memory_noted m chosen kept.rows) refl refl record {
           dealt = names.dealt;
           later = names.later;
           notes = notes_go_on t.lay planting known o is_pass kept.rows before refl kept.window.run kept.window.rested start (ends_trans (history_of planting kept.rows) (kept.last o) start (kept.window.rested o is_pass).within own_rest) since m.notes chosen names.notes (subst (λ g. Each (λ n. IsIn n m.notes × IsBefore g (history_of g snapshot) n.note) chosen) same picked);

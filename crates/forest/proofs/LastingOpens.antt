@@ -101,7 +101,7 @@ module _ (allows : Layout → History → ℕ → Type 0) (t : Lasting) (plantin
             let number : first_scx t.lay o + i ≡ s = cc in
             omega (arith, number, small)
 
-    first_well : RemembersWell t planting now o (first_memory t o)
+    first_well : RemembersWell t planting now o [] (first_memory t o)
     first_well = record {
       away = refl;
       often = refl;

@@ -2,7 +2,7 @@
 use Rattle.std.proofs.Common.{◌≡◌, ◌≢◌, ◌+◌, ◌*◌, ◌<◌, ℕ, suc, true≢false, eq-eqb, ne_eqb, List, [], ◌∷◌, None, slice_index, slice_set, inl, inr, ⊎_elim, refl, sym, ◌∙◌, ap, subst, arith}
 use Rattle.std.proofs.lemmas.List.{get_or-set_other}
 use Rattle.atomic_table.specs.Table.{Me, Allows, keeps}
-use Rattle.histories.specs.Common.{Layout, Word, History, Extends, place, IsWord, IsTakenNode}
+use Rattle.histories.specs.Common.{Layout, Row, Word, History, Extends, place, IsWord, IsTakenNode}
 use Rattle.arena.proofs.Lemmas.{ends_self}
 use Rattle.planting.specs.Plantings.{PlantingView}
 use Rattle.prims.specs.Moments.{AreFinished}
@@ -17,12 +17,12 @@ use Rattle.slots.proofs.Lemmas.{leaves, place_inside, rest_other, rest_same, res
 use Rattle.forest.specs.TableRule.{Owns, history_of, past_of}
 use Rattle.forest.specs.LastingMemory.{AreHeldOrGone, Present, RememberWell, RemembersNames, RemembersWell, present}
 use Rattle.forest.specs.LastingNotes.{memory_away, memory_rested}
-use Rattle.forest.specs.LastingRule.{LearnsWith, TableLasts, plot_in}
+use Rattle.forest.specs.LastingRule.{LearnsAtRest, LearnsWith, TableLasts, plot_in}
 use Rattle.forest.specs.declared.lasting_view.LastingView.{LastingView}
 use Rattle.forest.specs.declared.lasting_view.Memory.{Memory}
 use Rattle.forest.specs.declared.view.SeatedPass.{SeatedPass}
 use Rattle.forest.proofs.LastingKept.{Later, StaysUnborn, gone_kept, names_kept, remember_kept, remembers_kept, spared, views_kept}
-use Rattle.forest.proofs.LastingSeats.{apart, aware, learnt, now, over, owns_aware, well}
+use Rattle.forest.proofs.LastingSeats.{apart, at_rest, aware, learnt, learnt_at_rest, now, over, owns_aware, well}
 
 -- the moments of the rests move on for a pass that rests now
 pub moves_now : (t : Lasting) (h : History) (last : ℕ → History) (o : ℕ) → HaveRestedAt t.lay h last → HaveMovedOn t.lay h last (with_rest last o h)
@@ -42,15 +42,15 @@ all_gone t planting a b later stays run same gone n taken = ⊎_elim (λ is. inl
 
 module _ (allows : Layout → History → ℕ → Type 0) (t : Lasting) (planting : PlantingView) (stays : StaysUnborn t.lay) (slots id : ℕ) (me : Me ℕ LastingView) (p : SeatedPass) (m : Memory) (one : me.0.passes ≡ p ∷ []) (recalled : me.0.memories ≡ m ∷ []) (is_pass : p.number.0 < t.lay.passes) (finished : AreFinished p.layout p.number.0 0 (past_of p [])) where
   -- a pass that is between two calls stores that it rests, or that it is there again
-  pub lasting_rests : Allows (TableLasts allows t planting) slots id me (rests_place t.table p.number.0) (λ _. 2 * suc m.often) (λ n w. LearnsWith allows (memory_rested m) me.0 w.0 × (w.1 ≡ me.1))
+  pub lasting_rests : Allows (TableLasts allows t planting) slots id me (rests_place t.table p.number.0) (λ _. 2 * suc m.often) (λ n w. LearnsAtRest allows (memory_rested m) me.0 w.0 × (w.1 ≡ me.1))
   lasting_rests s kept sized seat fits =
       let o : ℕ = p.number.0 in
       let h : History = history_of planting kept.rows in
       let at : ℕ = rests_place t.table o in
       let before : Present = now allows t planting s kept id me.0 seat p m one recalled in
-      let recalls : RemembersWell t planting before o m = well allows t planting s kept id me.0 seat p m one recalled in
-      let mine : SeatedPass = aware allows t planting s kept id me.0 seat p m one recalled in
-      let w : LastingView = record { passes = mine ∷ []; memories = memory_rested m kept.rows ∷ [] } in
+      let recalls : RemembersWell t planting before o p.rested m = well allows t planting s kept id me.0 seat p m one recalled in
+      let mine : SeatedPass = at_rest allows t planting s kept id me.0 seat p m one recalled in
+      let w : LastingView = record { passes = mine ∷ []; memories = memory_rested m ∷ [] } in
       let both = rests_more t s.words h kept.last kept.held kept.tally kept.window o kept.counts is_pass (over allows t planting s kept id me.0 seat p m one recalled finished) in
       let words : List ℕ = slice_set s.words at (2 * suc m.often) in
       let next : Present = present words h (with_rest kept.last o h) kept.held (after_rest kept.tally o) in
@@ -60,8 +60,8 @@ module _ (allows : Layout → History → ℕ → Type 0) (t : Lasting) (plantin
       let left : (u : Word) → IsWord t.table u → kept.held (record_of u) ≡ None → slice_index words (place t.table u) ≡ slice_index s.words (place t.table u) =
       λ u i none. get_or-set_other s.words at (place t.table u) (2 * suc m.often) 0 (λ q. let inside = place_inside t.table u i in omega (arith, q, inside)) in
       let names : RemembersNames t planting next o m = names_kept t planting before next later stays o m (spared t planting before next later stays refl left o) recalls.names in
-      let others : (q : ℕ) (n : Memory) → q ≢ o → RemembersWell t planting before q n → RemembersWell t planting next q n =
-      λ q n d y. remembers_kept t planting before next later stays q n (spared t planting before next later stays refl left q) (rw (ne_eqb q o d) refl) (rw (ne_eqb q o d) refl) (λ z. rest_other kept.last o h q d) y in (
+      let others : (q : ℕ) (rested : List Row) (n : Memory) → q ≢ o → RemembersWell t planting before q rested n → RemembersWell t planting next q rested n =
+      λ q rested n d y. remembers_kept t planting before next later stays q rested n (spared t planting before next later stays refl left q) (rw (ne_eqb q o d) refl) (rw (ne_eqb q o d) refl) (λ z. rest_other kept.last o h q d) y in (
         w,
         keeps,
         tt,
@@ -76,7 +76,7 @@ module _ (allows : Layout → History → ℕ → Type 0) (t : Lasting) (plantin
           gone = all_gone t planting before next later stays refl refl kept.gone;
           owner = kept.owner;
           passes = views_kept (λ j v. Owns (plot_in t planting) kept.rows kept.owner j v.passes) (λ j v. Owns (plot_in t planting) kept.rows kept.owner j v.passes) s.views id w
-              (owns_aware allows t planting s kept id me.0 seat p m one recalled) (λ j v other fit y. y) kept.passes;
+              (owns_aware allows t planting s kept id me.0 seat p m one recalled kept.rows) (λ j v other fit y. y) kept.passes;
           memories = views_kept (λ j v. RememberWell t planting before v.passes v.memories) (λ j v. RememberWell t planting next v.passes v.memories) s.views id w (
             record {
               away = rw (eq-eqb o o refl) refl;
@@ -89,7 +89,7 @@ module _ (allows : Layout → History → ℕ → Type 0) (t : Lasting) (plantin
               (λ j v other fit y. remember_kept t planting before next (λ q. q ≢ o) others kept.rows kept.owner j (λ q owned. apart allows t planting s kept id me.0 seat p m one recalled j q other owned) v.passes v.memories (kept.passes j v fit) y)
               kept.memories;
         },
-        ((kept.rows, learnt allows t planting s kept id me.0 seat p m one recalled, refl), refl),
+        ((kept.rows, learnt_at_rest allows t planting s kept id me.0 seat p m one recalled, refl), refl),
       )
 
   -- or that it goes away
@@ -99,7 +99,7 @@ module _ (allows : Layout → History → ℕ → Type 0) (t : Lasting) (plantin
       let h : History = history_of planting kept.rows in
       let at : ℕ = rests_place t.table o in
       let before : Present = now allows t planting s kept id me.0 seat p m one recalled in
-      let recalls : RemembersWell t planting before o m = well allows t planting s kept id me.0 seat p m one recalled in
+      let recalls : RemembersWell t planting before o p.rested m = well allows t planting s kept id me.0 seat p m one recalled in
       let mine : SeatedPass = aware allows t planting s kept id me.0 seat p m one recalled in
       let w : LastingView = record { passes = mine ∷ []; memories = memory_away m ∷ [] } in
       let both = leaves t s.words h kept.last kept.held kept.tally kept.window o kept.counts is_pass (over allows t planting s kept id me.0 seat p m one recalled finished) in
@@ -111,8 +111,8 @@ module _ (allows : Layout → History → ℕ → Type 0) (t : Lasting) (plantin
       let left : (u : Word) → IsWord t.table u → kept.held (record_of u) ≡ None → slice_index words (place t.table u) ≡ slice_index s.words (place t.table u) =
       λ u i none. get_or-set_other s.words at (place t.table u) (2 * m.often + 1) 0 (λ q. let inside = place_inside t.table u i in omega (arith, q, inside)) in
       let names : RemembersNames t planting next o m = names_kept t planting before next later stays o m (spared t planting before next later stays refl left o) recalls.names in
-      let others : (q : ℕ) (n : Memory) → q ≢ o → RemembersWell t planting before q n → RemembersWell t planting next q n =
-      λ q n d y. remembers_kept t planting before next later stays q n (spared t planting before next later stays refl left q) (rw (ne_eqb q o d) refl) refl (λ z. refl) y in (
+      let others : (q : ℕ) (rested : List Row) (n : Memory) → q ≢ o → RemembersWell t planting before q rested n → RemembersWell t planting next q rested n =
+      λ q rested n d y. remembers_kept t planting before next later stays q rested n (spared t planting before next later stays refl left q) (rw (ne_eqb q o d) refl) refl (λ z. refl) y in (
         w,
         keeps,
         tt,
@@ -127,7 +127,7 @@ module _ (allows : Layout → History → ℕ → Type 0) (t : Lasting) (plantin
           gone = all_gone t planting before next later stays refl refl kept.gone;
           owner = kept.owner;
           passes = views_kept (λ j v. Owns (plot_in t planting) kept.rows kept.owner j v.passes) (λ j v. Owns (plot_in t planting) kept.rows kept.owner j v.passes) s.views id w
-              (owns_aware allows t planting s kept id me.0 seat p m one recalled) (λ j v other fit y. y) kept.passes;
+              (owns_aware allows t planting s kept id me.0 seat p m one recalled p.rested) (λ j v other fit y. y) kept.passes;
           memories = views_kept (λ j v. RememberWell t planting before v.passes v.memories) (λ j v. RememberWell t planting next v.passes v.memories) s.views id w (
             record {
               away = rw (eq-eqb o o refl) refl;

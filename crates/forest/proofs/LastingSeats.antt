@@ -50,7 +50,7 @@ module _ (allows : Layout → History → ℕ → Type 0) (t : Lasting) (plantin
   pub own : Owns (plot_in t planting) kept.rows kept.owner id (p ∷ [])
   own = subst (λ ps. Owns (plot_in t planting) kept.rows kept.owner id ps) one (kept.passes id v fits)
 
-  pub well : RemembersWell t planting now p.number.0 m
+  pub well : RemembersWell t planting now p.number.0 p.rested m
   well = (subst (λ ms. RememberWell t planting now (p ∷ []) ms) recalled (subst (λ ps. RememberWell t planting now ps v.memories) one (kept.memories id v fits))).0
 
   -- the run is what the pass knows, and rows of others
@@ -69,13 +69,21 @@ module _ (allows : Layout → History → ℕ → Type 0) (t : Lasting) (plantin
 
   -- the pass when it knows the whole run
   abbrev pub aware : SeatedPass
-  aware = seated_pass p.number.0 p.layout p.planting kept.rows
+  aware = seated_pass p.number.0 p.layout p.planting p.rested kept.rows
 
-  pub learnt : HasLearnt allows v.passes kept.rows (aware ∷ [])
+  pub learnt : HasLearnt allows (λ old. old) v.passes kept.rows (aware ∷ [])
   learnt = record { pass = p; others = own.2.0; was = one; by_others = own.2.2; rows_are = own.2.1; run = before; is = refl }
 
-  pub owns_aware : Owns (plot_in t planting) kept.rows kept.owner id (aware ∷ [])
-  owns_aware = (own.0, own.1, ([], refl, tt), tt, tt)
+  -- and when it rests then
+  abbrev pub at_rest : SeatedPass
+  at_rest = seated_pass p.number.0 p.layout p.planting kept.rows kept.rows
+
+  pub learnt_at_rest : HasLearnt allows (λ old. kept.rows) v.passes kept.rows (at_rest ∷ [])
+  learnt_at_rest = record { pass = p; others = own.2.0; was = one; by_others = own.2.2; rows_are = own.2.1; run = before; is = refl }
+
+  -- it is of its seat, whenever it has rested last
+  pub owns_aware : (rested : List Row) → Owns (plot_in t planting) kept.rows kept.owner id (seated_pass p.number.0 p.layout p.planting rested kept.rows ∷ [])
+  owns_aware rested = (own.0, own.1, ([], refl, tt), tt, tt)
 
   -- a pass of another seat is another
   pub apart : (j q : ℕ) → j ≢ id → kept.owner q ≡ j → q ≢ p.number.0

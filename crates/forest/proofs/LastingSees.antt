@@ -58,7 +58,7 @@ module _ (allows : Layout → History → ℕ → Type 0) (t : Lasting) (plantin
       before : Present
       before = now allows t planting s kept id me.0 fits p m one recalled
 
-      recalls : RemembersWell t planting before p.number.0 m
+      recalls : RemembersWell t planting before p.number.0 p.rested m
       recalls = well allows t planting s kept id me.0 fits p m one recalled
 
       mine : IsHeldName t p.number.0 before (Node n)
@@ -75,7 +75,7 @@ module _ (allows : Layout → History → ℕ → Type 0) (t : Lasting) (plantin
         record { passes = aware allows t planting s kept id me.0 fits p m one recalled ∷ []; memories = m ∷ [] },
         keeps,
         tt,
-        noted allows t planting stays s kept id me.0 fits p m one recalled at m refl refl refl recalls.names,
+        noted allows t planting stays s kept id me.0 fits p m one recalled at m refl refl recalls.names,
         ((kept.rows, learnt allows t planting s kept id me.0 fits p m one recalled, rw (eq-eqb found 0 e) refl), refl),
       )
       go (no d) =
@@ -84,7 +84,7 @@ module _ (allows : Layout → History → ℕ → Type 0) (t : Lasting) (plantin
             record { passes = aware allows t planting s kept id me.0 fits p m one recalled ∷ []; memories = after ∷ [] },
             keeps,
             tt,
-            noted allows t planting stays s kept id me.0 fits p m one recalled at after refl refl refl record {
+            noted allows t planting stays s kept id me.0 fits p m one recalled at after refl refl record {
               dealt = names.dealt;
               later = names.later;
               notes = ((ends_self h, inl record { taken = was_taken; mark = λ z. d (shown ∙ z) }), names.notes);
@@ -97,16 +97,16 @@ module _ (allows : Layout → History → ℕ → Type 0) (t : Lasting) (plantin
           )
 
   -- a name that was of no use to the pass as it rested, at a load of any word
-  pub lasting_unused : (at : ℕ) (name : RecordNo) → m.away ≡ false → IsUnused p.layout p.number.0 (record_at name) (history_of p.planting m.rested) → Allows (TableLasts allows t planting) slots id me at (λ n. n) (λ n w. LearnsWith allows (λ rows. memory_unused m name) me.0 w.0 × (w.1 ≡ me.1))
+  pub lasting_unused : (at : ℕ) (name : RecordNo) → m.away ≡ false → IsUnused p.layout p.number.0 (record_at name) (history_of p.planting p.rested) → Allows (TableLasts allows t planting) slots id me at (λ n. n) (λ n w. LearnsWith allows (λ rows. memory_unused m name) me.0 w.0 × (w.1 ≡ me.1))
   lasting_unused at name there unused s kept sized fits small =
       let before : Present = now allows t planting s kept id me.0 fits p m one recalled in
-      let recalls : RemembersWell t planting before p.number.0 m = well allows t planting s kept id me.0 fits p m one recalled in
+      let recalls : RemembersWell t planting before p.number.0 p.rested m = well allows t planting s kept id me.0 fits p m one recalled in
       let names = recalls.names in
-      let here : IsUnused t.lay p.number.0 (record_at name) (kept.last p.number.0) = subst (IsUnused t.lay p.number.0 (record_at name)) (sym (recalls.rested there)) (subst (λ (g : Plot). IsUnused g.layout p.number.0 (record_at name) (history_of g.planting m.rested)) (own allows t planting s kept id me.0 fits p m one recalled).1 unused) in (
+      let here : IsUnused t.lay p.number.0 (record_at name) (kept.last p.number.0) = subst (IsUnused t.lay p.number.0 (record_at name)) (sym (recalls.rested there)) (subst (λ (g : Plot). IsUnused g.layout p.number.0 (record_at name) (history_of g.planting p.rested)) (own allows t planting s kept id me.0 fits p m one recalled).1 unused) in (
         record { passes = aware allows t planting s kept id me.0 fits p m one recalled ∷ []; memories = memory_unused m name ∷ [] },
         keeps,
         tt,
-        noted allows t planting stays s kept id me.0 fits p m one recalled at (memory_unused m name) refl refl refl record {
+        noted allows t planting stays s kept id me.0 fits p m one recalled at (memory_unused m name) refl refl record {
           dealt = names.dealt;
           later = names.later;
           notes = (unused_out t.lay (history_of planting kept.rows) kept.last p.number.0 (record_at name) is_pass here, names.notes);
@@ -129,7 +129,7 @@ module _ (allows : Layout → History → ℕ → Type 0) (t : Lasting) (plantin
         record { passes = aware allows t planting s kept id me.0 fits p m one recalled ∷ []; memories = memory_left m n p.known ∷ [] },
         keeps,
         tt,
-        noted allows t planting stays s kept id me.0 fits p m one recalled at (memory_left m n p.known) refl refl refl record {
+        noted allows t planting stays s kept id me.0 fits p m one recalled at (memory_left m n p.known) refl refl record {
           dealt = names.dealt;
           later = names.later;
           notes = ((within, inr (inr (inl here), inr (inl (left_since t.lay h then n.0 kept.window.run within here.left)))), names.notes);
@@ -145,13 +145,13 @@ module _ (allows : Layout → History → ℕ → Type 0) (t : Lasting) (plantin
   pub lasting_loads : (name : RecordNo) (u : Word) → IsIn name m.holds → record_of u ≡ record_at name → IsWord t.lay u → Allows (TableLasts allows t planting) slots id me (table_place t u) (λ v. v) (λ v w. LoadsWord allows m u v me.0 w.0 × (w.1 ≡ me.1))
   lasting_loads name u holds of_name inside s kept sized fits small =
       let before : Present = now allows t planting s kept id me.0 fits p m one recalled in
-      let recalls : RemembersWell t planting before p.number.0 m = well allows t planting s kept id me.0 fits p m one recalled in
+      let recalls : RemembersWell t planting before p.number.0 p.rested m = well allows t planting s kept id me.0 fits p m one recalled in
       let mine : IsHeldName t p.number.0 before name = in_each (IsHeldName t p.number.0 before) name m.holds holds recalls.names.holds in
       let shown : slice_index s.words (table_place t u) ≡ value (history_of planting kept.rows) u = kept.window.shows u inside (subst (IsHeld t kept.held) (sym of_name) mine.1) in (
         record { passes = aware allows t planting s kept id me.0 fits p m one recalled ∷ []; memories = m ∷ [] },
         keeps,
         tt,
-        noted allows t planting stays s kept id me.0 fits p m one recalled (table_place t u) m refl refl refl recalls.names,
+        noted allows t planting stays s kept id me.0 fits p m one recalled (table_place t u) m refl refl recalls.names,
         (
           record {
             rows = kept.rows;

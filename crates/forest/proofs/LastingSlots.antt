@@ -124,7 +124,7 @@ module _ (allows : Layout → History → ℕ → Type 0) (t : Lasting) (plantin
   abbrev before : Present
   before = now allows t planting s kept id v fits p m one recalled
 
-  recalls : RemembersWell t planting before p.number.0 m
+  recalls : RemembersWell t planting before p.number.0 p.rested m
   recalls = well allows t planting s kept id v fits p m one recalled
 
   abbrev held : Held
@@ -175,9 +175,9 @@ module _ (allows : Layout → History → ℕ → Type 0) (t : Lasting) (plantin
     zeros = zeros_kept q;
   }
 
-  pub let_go_then : TableLasts allows t planting (seen_by allows t planting stays s kept id v fits p m one recalled at kept.rows (memory_without t m name nodes_to scx_to))
-  let_go_then = as_loaded allows t planting stays s kept id v fits p m one recalled at kept.rows (memory_without t m name nodes_to scx_to)
-      (goes_on allows t planting stays s kept id v fits p m one recalled at s.words kept.rows kept.last held (memory_without t m name nodes_to scx_to) kept.sound window kept.counts later (λ q d z. refl) gone
+  pub let_go_then : TableLasts allows t planting (seen_by allows t planting stays s kept id v fits p m one recalled at p.rested kept.rows (memory_without t m name nodes_to scx_to))
+  let_go_then = as_loaded allows t planting stays s kept id v fits p m one recalled at p.rested kept.rows (memory_without t m name nodes_to scx_to)
+      (goes_on allows t planting stays s kept id v fits p m one recalled at s.words p.rested kept.rows kept.last held (memory_without t m name nodes_to scx_to) kept.sound window kept.counts later (λ q d z. refl) gone
       record { away = recalls.away; often = recalls.often; rested = recalls.rested; names = names }
       spares (λ j d ps y. y))
 
@@ -189,7 +189,7 @@ module _ (allows : Layout → History → ℕ → Type 0) (t : Lasting) (plantin
       let x : Record = record_at name in
       let h : History = history_of planting kept.rows in
       let before : Present = now allows t planting s kept id me.0 fits p m one recalled in
-      let recalls : RemembersWell t planting before o m = well allows t planting s kept id me.0 fits p m one recalled in
+      let recalls : RemembersWell t planting before o p.rested m = well allows t planting s kept id me.0 fits p m one recalled in
       let mine : IsHeldName t o before name = in_each (IsHeldName t o before) name m.holds held_name recalls.names.holds in
       let out : IsNoteSo t.lay planting o before x OutOfReach = in_each (λ n. IsNoteSo t.lay planting o before (record_at n.name) n.note) (noted_as name OutOfReach) m.notes noted_so recalls.names.notes in
       let was_taken : WasTaken h x = taken_since h (history_of planting p.known) x (behind_known allows t planting s kept id me.0 fits p m one recalled) (subst (λ (g : Plot). WasTaken (history_of g.planting p.known) x) (own allows t planting s kept id me.0 fits p m one recalled).1 taken) in (
@@ -228,7 +228,7 @@ module _ (allows : Layout → History → ℕ → Type 0) (t : Lasting) (plantin
       untaken : IsUntaken t.lay h (record_at name)
       untaken = left_untaken t.lay h o left (record_at name) mine.0.0 its_left (share_now allows t planting s kept id me.0 fits p m one recalled left is_pass share)
 
-      given : (k : RecordNo) → IsLeft left (record_at k) → IsLastDealt m (record_at k) → IsHeldName t o before k → IsUntaken t.lay h (record_at k) → TableLasts allows t planting (seen_by allows t planting stays s kept id me.0 fits p m one recalled at kept.rows (memory_given_back t m k))
+      given : (k : RecordNo) → IsLeft left (record_at k) → IsLastDealt m (record_at k) → IsHeldName t o before k → IsUntaken t.lay h (record_at k) → TableLasts allows t planting (seen_by allows t planting stays s kept id me.0 fits p m one recalled at p.rested kept.rows (memory_given_back t m k))
       given (Node n) is_left last its free = let_go_then allows t planting stays s kept id me.0 fits p m one recalled at (Node n) n.0 m.scx_to its (inl free)
           (λ i z e. absurd (free.1 (subst (IsTakenNode h) (one_number i n.0 e) z)))
           (λ y its_own d k. node_dealt n.0 last y d)
@@ -274,7 +274,7 @@ module _ (allows : Layout → History → ℕ → Type 0) (t : Lasting) (plantin
     record { passes = aware allows t planting s kept id me.0 fits p m one recalled ∷ []; memories = memory_cleared m u ∷ [] },
     keeps,
     tt,
-    goes_on allows t planting stays s kept id me.0 fits p m one recalled at words kept.rows kept.last kept.held (memory_cleared m u) kept.sound window counts later (λ q d z. refl) gone
+    goes_on allows t planting stays s kept id me.0 fits p m one recalled at words p.rested kept.rows kept.last kept.held (memory_cleared m u) kept.sound window counts later (λ q d z. refl) gone
         record { away = recalls.away; often = recalls.often; rested = recalls.rested; names = names }
         (λ q d. spares q) (λ j d ps y. y),
     ((kept.rows, learnt allows t planting s kept id me.0 fits p m one recalled, refl), refl),
@@ -292,7 +292,7 @@ module _ (allows : Layout → History → ℕ → Type 0) (t : Lasting) (plantin
       before : Present
       before = now allows t planting s kept id me.0 fits p m one recalled
 
-      recalls : RemembersWell t planting before o m
+      recalls : RemembersWell t planting before o p.rested m
       recalls = well allows t planting s kept id me.0 fits p m one recalled
 
       mine : IsEmptySlot t o before slot

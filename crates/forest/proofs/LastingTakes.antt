@@ -21,7 +21,7 @@ use Rattle.forest.specs.Passes.{Each}
 use Rattle.forest.specs.TableRule.{Owns, history_of, seated_pass}
 use Rattle.forest.specs.LastingMemory.{AreHeldOrGone, IsDealt, IsEmptySlot, IsGone, IsZeroWord, Present, RemembersNames, RemembersWell, present, record_at}
 use Rattle.forest.specs.LastingNames.{MayTake, memory_with, memory_with_node, memory_with_scx, node_ahead, past_nodes, past_scxs, scx_ahead, without_words}
-use Rattle.forest.specs.LastingRule.{GoesOnWith, TableLasts, plot_in, LearnsWith}
+use Rattle.forest.specs.LastingRule.{GoesOnWith, TableLasts, plot_in, LearnsAtRest}
 use Rattle.forest.specs.declared.lasting_view.LastingView.{LastingView}
 use Rattle.forest.specs.declared.lasting_view.Memory.{Memory}
 use Rattle.forest.specs.declared.lasting_view.RecordNo.{RecordNo}
@@ -31,7 +31,7 @@ use Rattle.forest.proofs.LastingKept.{Later, Spares, StaysUnborn, each_kept, gon
 use Rattle.forest.proofs.LastingGhosts.{as_loaded, goes_on, in_each, seen_by}
 use Rattle.forest.proofs.LastingNames.{GoesOn, IsReady, PassedNodes, PassedScx, passes_all_scx, passes_nodes}
 use Rattle.forest.proofs.LastingRests.{moves_now}
-use Rattle.forest.proofs.LastingSeats.{now, over, own, share_now, well, aware, learnt}
+use Rattle.forest.proofs.LastingSeats.{at_rest, learnt_at_rest, now, over, own, share_now, well}
 use Rattle.forest.proofs.LastingSlots.{each_without, one_record_owner, same_self, left_untaken}
 
 each_without_words : (P Q : Word → Type 0) (x : Record) → ((w : Word) → ¬ (record_of w ≡ x) → P w → Q w) → (ws : List Word) → Each P ws → Each Q (without_words x ws)
@@ -70,7 +70,7 @@ module _ (allows : Layout → History → ℕ → Type 0) (t : Lasting) (plantin
   abbrev before : Present
   before = now allows t planting s kept id v fits p m one recalled
 
-  pub recalls : RemembersWell t planting before p.number.0 m
+  pub recalls : RemembersWell t planting before p.number.0 p.rested m
   recalls = well allows t planting s kept id v fits p m one recalled
 
   pub owned : Owns (plot_in t planting) kept.rows kept.owner id (p ∷ [])
@@ -85,7 +85,7 @@ module _ (allows : Layout → History → ℕ → Type 0) (t : Lasting) (plantin
   pub goes_now : GoesOn allows t planting kept.held kept.last kept.tally s.words kept.owner id p.number.0 owned.0 kept.rows may.is_pass is_there kept.rows
   goes_now = record { sound = kept.sound; within = ends_self (history_of planting kept.rows); rested = kept.window.rested; counts = kept.counts; seen = λ q l n y. y; grows = λ j other ps y. y }
 
-  module _ (rows : List Row) (ready : IsReady allows t planting kept.held kept.last kept.tally s.words kept.owner id p.number.0 owned.0 kept.rows may.is_pass is_there (record_at name) m (memory_with m name slot nodes_to scx_to rows) rows) where
+  module _ (rows : List Row) (ready : IsReady allows t planting kept.held kept.last kept.tally s.words kept.owner id p.number.0 owned.0 kept.rows may.is_pass is_there (record_at name) m (memory_with m name slot nodes_to scx_to) rows) where
     abbrev k : History
     k = history_of planting rows
 
@@ -93,7 +93,7 @@ module _ (allows : Layout → History → ℕ → Type 0) (t : Lasting) (plantin
     last = with_rest kept.last p.number.0 (history_of planting rows)
 
     abbrev after : Memory
-    after = memory_with m name slot nodes_to scx_to rows
+    after = memory_with m name slot nodes_to scx_to
 
     abbrev held : Held
     held = with_slot kept.held (record_at slot) (Some (record_at name))
@@ -161,9 +161,9 @@ module _ (allows : Layout → History → ℕ → Type 0) (t : Lasting) (plantin
       zeros = λ w e. record { is_word = e.is_word; own = e.own; none = slot_kept (record_of w) (not_mine q d (record_of w) e.own) e.none; zero = e.zero };
     }
 
-    pub name_taken : TableLasts allows t planting (seen_by allows t planting stays s kept id v fits p m one recalled at rows after)
-    name_taken = as_loaded allows t planting stays s kept id v fits p m one recalled at rows after
-        (goes_on allows t planting stays s kept id v fits p m one recalled at s.words rows last held after ready.goes.sound window ready.goes.counts later (λ q d z. rest_other kept.last o k q d) gone
+    pub name_taken : TableLasts allows t planting (seen_by allows t planting stays s kept id v fits p m one recalled at rows rows after)
+    name_taken = as_loaded allows t planting stays s kept id v fits p m one recalled at rows rows after
+        (goes_on allows t planting stays s kept id v fits p m one recalled at s.words rows rows last held after ready.goes.sound window ready.goes.counts later (λ q d z. rest_other kept.last o k q d) gone
         record { away = recalls.away; often = recalls.often; rested = λ z. rest_same kept.last o k; names = names }
         spares ready.goes.grows)
 
@@ -171,7 +171,7 @@ module _ (allows : Layout → History → ℕ → Type 0) (t : Lasting) (plantin
   -- the next name of a node but so many, at a load of any word
   pub lasting_nodes : MayTake t p m left (node_ahead m count) slot → left.next_node ≡ m.nodes_to → Allows (TableLasts allows t planting) slots id me at (λ n. n) (λ n w. GoesOnWith allows (past_nodes p.number.0 m.nodes_to count) (memory_with_node m count slot) me.0 w.0 × (w.1 ≡ me.1))
   lasting_nodes may all s kept sized fits small = (
-    record { passes = seated_pass o p.layout p.planting rows ∷ []; memories = memory_with_node m count slot rows ∷ [] },
+    record { passes = seated_pass o p.layout p.planting rows rows ∷ []; memories = memory_with_node m count slot ∷ [] },
     keeps,
     tt,
     name_taken allows t planting stays s kept id me.0 fits p m one recalled at left (node_ahead m count) slot (m.nodes_to + suc count) m.scx_to may rows ready,
@@ -182,8 +182,8 @@ module _ (allows : Layout → History → ℕ → Type 0) (t : Lasting) (plantin
         was = one;
         by_others = mine.2.2;
         run = subst (λ (g : Plot). IsRun allows g.layout (history_of g.planting (past_nodes o m.nodes_to count g.planting (mine.2.0 ++ p.known)))) (sym mine.1) (subst (λ l. IsRun allows t.lay (history_of planting (past_nodes o m.nodes_to count planting l))) mine.2.1 passed.goes.sound);
-        passes = ap (λ l. seated_pass o p.layout p.planting l ∷ []) rows_are;
-        memories = ap (λ l. memory_with_node m count slot l ∷ []) rows_are;
+        passes = ap (λ l. seated_pass o p.layout p.planting l l ∷ []) rows_are;
+        memories = refl;
       },
       refl,
     ),
@@ -195,7 +195,7 @@ module _ (allows : Layout → History → ℕ → Type 0) (t : Lasting) (plantin
       mine : Owns (plot_in t planting) kept.rows kept.owner id (p ∷ [])
       mine = owned allows t planting stays s kept id me.0 fits p m one recalled at left (node_ahead m count) slot (m.nodes_to + suc count) m.scx_to may
 
-      known : RemembersWell t planting (now allows t planting s kept id me.0 fits p m one recalled) o m
+      known : RemembersWell t planting (now allows t planting s kept id me.0 fits p m one recalled) o p.rested m
       known = recalls allows t planting stays s kept id me.0 fits p m one recalled at left (node_ahead m count) slot (m.nodes_to + suc count) m.scx_to may
 
       rows : List Row
@@ -229,7 +229,7 @@ module _ (allows : Layout → History → ℕ → Type 0) (t : Lasting) (plantin
       passed = passes_nodes allows t planting kept.held kept.last kept.tally s.words kept.owner id o mine.0 kept.rows may.is_pass (is_there allows t planting stays s kept id me.0 fits p m one recalled at left (node_ahead m count) slot (m.nodes_to + suc count) m.scx_to may) count m.nodes_to kept.rows begins
           (λ n more less. (own_between n more less, known.names.later (the_node n) (own_between n more less) (λ z. omega (arith, more, z))))
 
-      dealt : (y : Record) → IsOwnRecord t.lay o y → IsDealt (memory_with_node m count slot rows) y → IsUntaken t.lay (history_of planting rows) y → (y ≡ the_node (m.nodes_to + count)) ⊎ IsDealt m y
+      dealt : (y : Record) → IsOwnRecord t.lay o y → IsDealt (memory_with_node m count slot) y → IsUntaken t.lay (history_of planting rows) y → (y ≡ the_node (m.nodes_to + count)) ⊎ IsDealt m y
       dealt (the_node n) its_own d free = go (dec_lt n (m.nodes_to + count))
         where
           go : Dec (n < m.nodes_to + count) → (the_node n ≡ the_node (m.nodes_to + count)) ⊎ (n < m.nodes_to)
@@ -237,11 +237,11 @@ module _ (allows : Layout → History → ℕ → Type 0) (t : Lasting) (plantin
           go (no more) = inl (ap the_node (omega (arith, d, more)))
       dealt (the_scx i) its_own d free = inr d
 
-      undealt : (y : Record) → ¬ IsDealt (memory_with_node m count slot rows) y → ¬ IsDealt m y
+      undealt : (y : Record) → ¬ IsDealt (memory_with_node m count slot) y → ¬ IsDealt m y
       undealt (the_node n) d z = d (omega (arith, z))
       undealt (the_scx i) d z = d z
 
-      ready : IsReady allows t planting kept.held kept.last kept.tally s.words kept.owner id o mine.0 kept.rows may.is_pass (is_there allows t planting stays s kept id me.0 fits p m one recalled at left (node_ahead m count) slot (m.nodes_to + suc count) m.scx_to may) (the_node (m.nodes_to + count)) m (memory_with_node m count slot rows) rows
+      ready : IsReady allows t planting kept.held kept.last kept.tally s.words kept.owner id o mine.0 kept.rows may.is_pass (is_there allows t planting stays s kept id me.0 fits p m one recalled at left (node_ahead m count) slot (m.nodes_to + suc count) m.scx_to may) (the_node (m.nodes_to + count)) m (memory_with_node m count slot) rows
       ready = record {
         goes = passed.goes;
         run = passed.run;
@@ -257,7 +257,7 @@ module _ (allows : Layout → History → ℕ → Type 0) (t : Lasting) (plantin
   -- and of an SCX-record
   pub lasting_scx : MayTake t p m left (scx_ahead m count) slot → left.next_scx ≡ m.scx_to → Allows (TableLasts allows t planting) slots id me at (λ n. n) (λ n w. GoesOnWith allows (past_scxs p.number.0 m.scx_to count) (memory_with_scx m count slot) me.0 w.0 × (w.1 ≡ me.1))
   lasting_scx may all s kept sized fits small = (
-    record { passes = seated_pass o p.layout p.planting rows ∷ []; memories = memory_with_scx m count slot rows ∷ [] },
+    record { passes = seated_pass o p.layout p.planting rows rows ∷ []; memories = memory_with_scx m count slot ∷ [] },
     keeps,
     tt,
     name_taken allows t planting stays s kept id me.0 fits p m one recalled at left (scx_ahead m count) slot m.nodes_to (m.scx_to + suc count) may rows ready,
@@ -268,8 +268,8 @@ module _ (allows : Layout → History → ℕ → Type 0) (t : Lasting) (plantin
         was = one;
         by_others = mine.2.2;
         run = subst (λ (g : Plot). IsRun allows g.layout (history_of g.planting (past_scxs o m.scx_to count g.planting (mine.2.0 ++ p.known)))) (sym mine.1) (subst (λ l. IsRun allows t.lay (history_of planting (past_scxs o m.scx_to count planting l))) mine.2.1 passed.goes.sound);
-        passes = ap (λ l. seated_pass o p.layout p.planting l ∷ []) rows_are;
-        memories = ap (λ l. memory_with_scx m count slot l ∷ []) rows_are;
+        passes = ap (λ l. seated_pass o p.layout p.planting l l ∷ []) rows_are;
+        memories = refl;
       },
       refl,
     ),
@@ -281,7 +281,7 @@ module _ (allows : Layout → History → ℕ → Type 0) (t : Lasting) (plantin
       mine : Owns (plot_in t planting) kept.rows kept.owner id (p ∷ [])
       mine = owned allows t planting stays s kept id me.0 fits p m one recalled at left (scx_ahead m count) slot m.nodes_to (m.scx_to + suc count) may
 
-      known : RemembersWell t planting (now allows t planting s kept id me.0 fits p m one recalled) o m
+      known : RemembersWell t planting (now allows t planting s kept id me.0 fits p m one recalled) o p.rested m
       known = recalls allows t planting stays s kept id me.0 fits p m one recalled at left (scx_ahead m count) slot m.nodes_to (m.scx_to + suc count) may
 
       rows : List Row
@@ -314,7 +314,7 @@ module _ (allows : Layout → History → ℕ → Type 0) (t : Lasting) (plantin
       passed = passes_all_scx allows t planting kept.held kept.last kept.tally s.words kept.owner id o mine.0 kept.rows may.is_pass (is_there allows t planting stays s kept id me.0 fits p m one recalled at left (scx_ahead m count) slot m.nodes_to (m.scx_to + suc count) may) count m.scx_to kept.rows begins
           (λ n more less. (own_between n more less, known.names.later (the_scx n) (own_between n more less) (λ z. omega (arith, more, z))))
 
-      dealt : (y : Record) → IsOwnRecord t.lay o y → IsDealt (memory_with_scx m count slot rows) y → IsUntaken t.lay (history_of planting rows) y → (y ≡ the_scx (m.scx_to + count)) ⊎ IsDealt m y
+      dealt : (y : Record) → IsOwnRecord t.lay o y → IsDealt (memory_with_scx m count slot) y → IsUntaken t.lay (history_of planting rows) y → (y ≡ the_scx (m.scx_to + count)) ⊎ IsDealt m y
       dealt (the_scx n) its_own d free = go (dec_lt n (m.scx_to + count))
         where
           go : Dec (n < m.scx_to + count) → (the_scx n ≡ the_scx (m.scx_to + count)) ⊎ (n < m.scx_to)
@@ -322,11 +322,11 @@ module _ (allows : Layout → History → ℕ → Type 0) (t : Lasting) (plantin
           go (no more) = inl (ap the_scx (omega (arith, d, more)))
       dealt (the_node i) its_own d free = inr d
 
-      undealt : (y : Record) → ¬ IsDealt (memory_with_scx m count slot rows) y → ¬ IsDealt m y
+      undealt : (y : Record) → ¬ IsDealt (memory_with_scx m count slot) y → ¬ IsDealt m y
       undealt (the_scx n) d z = d (omega (arith, z))
       undealt (the_node i) d z = d z
 
-      ready : IsReady allows t planting kept.held kept.last kept.tally s.words kept.owner id o mine.0 kept.rows may.is_pass (is_there allows t planting stays s kept id me.0 fits p m one recalled at left (scx_ahead m count) slot m.nodes_to (m.scx_to + suc count) may) (the_scx (m.scx_to + count)) m (memory_with_scx m count slot rows) rows
+      ready : IsReady allows t planting kept.held kept.last kept.tally s.words kept.owner id o mine.0 kept.rows may.is_pass (is_there allows t planting stays s kept id me.0 fits p m one recalled at left (scx_ahead m count) slot m.nodes_to (m.scx_to + suc count) may) (the_scx (m.scx_to + count)) m (memory_with_scx m count slot) rows
       ready = record {
         goes = passed.goes;
         run = passed.run;
@@ -342,12 +342,12 @@ module _ (allows : Layout → History → ℕ → Type 0) (t : Lasting) (plantin
 -- The name behind those that are dealt, of which some may be left, with none passed over.
 module _ (allows : Layout → History → ℕ → Type 0) (t : Lasting) (planting : PlantingView) (stays : StaysUnborn t.lay) (slots id : ℕ) (me : Me ℕ LastingView) (p : SeatedPass) (m : Memory) (one : me.0.passes ≡ p ∷ []) (recalled : me.0.memories ≡ m ∷ []) (at : ℕ) (left : Remaining) (slot : RecordNo) where
   next_taken : (name : RecordNo) (nodes_to scx_to : ℕ) → MayTake t p m left name slot → IsLeft left (record_at name)
-      → ((rows : List Row) (y : Record) → IsDealt (memory_with m name slot nodes_to scx_to rows) y → (y ≡ record_at name) ⊎ IsDealt m y)
-      → ((rows : List Row) (y : Record) → ¬ IsDealt (memory_with m name slot nodes_to scx_to rows) y → ¬ IsDealt m y)
-      → ((rows : List Row) → IsDealt (memory_with m name slot nodes_to scx_to rows) (record_at name))
-      → Allows (TableLasts allows t planting) slots id me at (λ n. n) (λ n w. LearnsWith allows (memory_with m name slot nodes_to scx_to) me.0 w.0 × (w.1 ≡ me.1))
+      → ((y : Record) → IsDealt (memory_with m name slot nodes_to scx_to) y → (y ≡ record_at name) ⊎ IsDealt m y)
+      → ((y : Record) → ¬ IsDealt (memory_with m name slot nodes_to scx_to) y → ¬ IsDealt m y)
+      → IsDealt (memory_with m name slot nodes_to scx_to) (record_at name)
+      → Allows (TableLasts allows t planting) slots id me at (λ n. n) (λ n w. LearnsAtRest allows (memory_with m name slot nodes_to scx_to) me.0 w.0 × (w.1 ≡ me.1))
   next_taken name nodes_to scx_to may is_left dealt undealt itself s kept sized fits small = (
-    record { passes = aware allows t planting s kept id me.0 fits p m one recalled ∷ []; memories = memory_with m name slot nodes_to scx_to kept.rows ∷ [] },
+    record { passes = at_rest allows t planting s kept id me.0 fits p m one recalled ∷ []; memories = memory_with m name slot nodes_to scx_to ∷ [] },
     keeps,
     tt,
     name_taken allows t planting stays s kept id me.0 fits p m one recalled at left name slot nodes_to scx_to may kept.rows record {
@@ -356,40 +356,40 @@ module _ (allows : Layout → History → ℕ → Type 0) (t : Lasting) (plantin
       over = over allows t planting s kept id me.0 fits p m one recalled may.over;
       passed = none_passed t kept.held kept.last p.number.0 (history_of planting kept.rows);
       free = left_untaken t.lay (history_of planting kept.rows) p.number.0 left (record_at name) may.own.0 is_left (its_share allows t planting stays s kept id me.0 fits p m one recalled at left name slot nodes_to scx_to may);
-      dealt = λ y its_own d free. dealt kept.rows y d;
-      undealt = undealt kept.rows;
-      itself = itself kept.rows;
+      dealt = λ y its_own d free. dealt y d;
+      undealt = undealt;
+      itself = itself;
       others = λ n z. inl z;
     },
-    ((kept.rows, learnt allows t planting s kept id me.0 fits p m one recalled, refl), refl),
+    ((kept.rows, learnt_at_rest allows t planting s kept id me.0 fits p m one recalled, refl), refl),
   )
 
-  pub lasting_next_node : MayTake t p m left (node_ahead m 0) slot → IsLeft left (record_at (node_ahead m 0)) → Allows (TableLasts allows t planting) slots id me at (λ n. n) (λ n w. LearnsWith allows (memory_with_node m 0 slot) me.0 w.0 × (w.1 ≡ me.1))
-  lasting_next_node may is_left = next_taken (node_ahead m 0) (m.nodes_to + 1) m.scx_to may is_left dealt undealt (λ rows. omega arith)
+  pub lasting_next_node : MayTake t p m left (node_ahead m 0) slot → IsLeft left (record_at (node_ahead m 0)) → Allows (TableLasts allows t planting) slots id me at (λ n. n) (λ n w. LearnsAtRest allows (memory_with_node m 0 slot) me.0 w.0 × (w.1 ≡ me.1))
+  lasting_next_node may is_left = next_taken (node_ahead m 0) (m.nodes_to + 1) m.scx_to may is_left dealt undealt (omega arith)
     where
-      dealt : (rows : List Row) (y : Record) → IsDealt (memory_with_node m 0 slot rows) y → (y ≡ the_node (m.nodes_to + 0)) ⊎ IsDealt m y
-      dealt rows (the_node n) d = go (dec_lt n m.nodes_to)
+      dealt : (y : Record) → IsDealt (memory_with_node m 0 slot) y → (y ≡ the_node (m.nodes_to + 0)) ⊎ IsDealt m y
+      dealt (the_node n) d = go (dec_lt n m.nodes_to)
         where
           go : Dec (n < m.nodes_to) → (the_node n ≡ the_node (m.nodes_to + 0)) ⊎ (n < m.nodes_to)
           go (yes less) = inr less
           go (no more) = inl (ap the_node (omega (arith, d, more)))
-      dealt rows (the_scx i) d = inr d
+      dealt (the_scx i) d = inr d
 
-      undealt : (rows : List Row) (y : Record) → ¬ IsDealt (memory_with_node m 0 slot rows) y → ¬ IsDealt m y
-      undealt rows (the_node n) d z = d (omega (arith, z))
-      undealt rows (the_scx i) d z = d z
+      undealt : (y : Record) → ¬ IsDealt (memory_with_node m 0 slot) y → ¬ IsDealt m y
+      undealt (the_node n) d z = d (omega (arith, z))
+      undealt (the_scx i) d z = d z
 
-  pub lasting_next_scx : MayTake t p m left (scx_ahead m 0) slot → IsLeft left (record_at (scx_ahead m 0)) → Allows (TableLasts allows t planting) slots id me at (λ n. n) (λ n w. LearnsWith allows (memory_with_scx m 0 slot) me.0 w.0 × (w.1 ≡ me.1))
-  lasting_next_scx may is_left = next_taken (scx_ahead m 0) m.nodes_to (m.scx_to + 1) may is_left dealt undealt (λ rows. omega arith)
+  pub lasting_next_scx : MayTake t p m left (scx_ahead m 0) slot → IsLeft left (record_at (scx_ahead m 0)) → Allows (TableLasts allows t planting) slots id me at (λ n. n) (λ n w. LearnsAtRest allows (memory_with_scx m 0 slot) me.0 w.0 × (w.1 ≡ me.1))
+  lasting_next_scx may is_left = next_taken (scx_ahead m 0) m.nodes_to (m.scx_to + 1) may is_left dealt undealt (omega arith)
     where
-      dealt : (rows : List Row) (y : Record) → IsDealt (memory_with_scx m 0 slot rows) y → (y ≡ the_scx (m.scx_to + 0)) ⊎ IsDealt m y
-      dealt rows (the_scx n) d = go (dec_lt n m.scx_to)
+      dealt : (y : Record) → IsDealt (memory_with_scx m 0 slot) y → (y ≡ the_scx (m.scx_to + 0)) ⊎ IsDealt m y
+      dealt (the_scx n) d = go (dec_lt n m.scx_to)
         where
           go : Dec (n < m.scx_to) → (the_scx n ≡ the_scx (m.scx_to + 0)) ⊎ (n < m.scx_to)
           go (yes less) = inr less
           go (no more) = inl (ap the_scx (omega (arith, d, more)))
-      dealt rows (the_node i) d = inr d
+      dealt (the_node i) d = inr d
 
-      undealt : (rows : List Row) (y : Record) → ¬ IsDealt (memory_with_scx m 0 slot rows) y → ¬ IsDealt m y
-      undealt rows (the_scx n) d z = d (omega (arith, z))
-      undealt rows (the_node i) d z = d z
+      undealt : (y : Record) → ¬ IsDealt (memory_with_scx m 0 slot) y → ¬ IsDealt m y
+      undealt (the_scx n) d z = d (omega (arith, z))
+      undealt (the_node i) d z = d z

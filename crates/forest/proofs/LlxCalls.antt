@@ -75,6 +75,6 @@ module _ {allows : Layout → History → ℕ → Type 0} {mode : Mode} {T : Typ
   -- it has filled no word
   pub llx_kinds : (blamed : List ℕ) (a : Llx) → SeatLlxEnds allows (call_of p x number) s.me.0.passes node a → HasFilledNothing (pass_view p) (pass_view (heard blamed))
   llx_kinds blamed a y =
-      let run : history_of y.1.planting y.1.known ≡ run_at s.me.0.passes = sym (ap run_at y.1.is) in
+      let run : history_of y.1.planting y.1.known ≡ run_at s.me.0.passes = sym (ap run_at y.1.is.alone) in
       subst (λ (h : History). HoldsOfOwn (λ r. r.kind ≢ Fill) p.number.0 (run_of (pass_view p)) h) run
       (course_holds (LlxWaits allows) (λ old now. now.node ≡ old.node) (call_of p x number) (llx_at node Start) (λ r. r.kind ≢ Fill) (λ m. Unit {0}) tt (λ old now is q. tt) (λ k h t q w. llx_fills_not allows k (call_of p x number) h t w) y.0 _ y.1.so.1).1

@@ -70,8 +70,8 @@ module _ {K V : Type 0} (valid_key : K → Type 0) (key : K → ℕ) (valid_valu
       stays_lawful = on turn stood
         where
           on : (t : Turn (Reply K V)) → DictStands (next_call o.began.value x.pass.is_pass) s.me.0.passes x.first m t → IsRun (TypedAllows (IsWordOf valid_key key) (IsWordOf valid_value value)) o.began.value.layout (run_at s.me.0.passes)
-          on (Ask u) z = rw z.is z.sound
-          on (Done a) z = rw z.is z.sound
+          on (Ask u) z = rw z.is.alone z.sound
+          on (Done a) z = rw z.is.alone z.sound
 
       module _ (nearer : MatchTurn turn (λ _. map_left m.run (shared_nodes o.layout) < map_left o.run.run (shared_nodes o.layout)) (λ _. Unit {0})) where
         few : seat_steps s.me.0.passes + weight turn (map_left m.run (shared_nodes o.layout)) ≤ steps_of o.began.value + most_steps (call_in o.run.run) o.run.tries (nodes_by trie (shared_nodes o.layout))
@@ -83,7 +83,7 @@ module _ {K V : Type 0} (valid_key : K → Type 0) (key : K → ℕ) (valid_valu
         -- it stays a call that is held open
         pub stays_open : (over : Bool) → (over ≡ true → MatchTurn turn (λ _. ⊥) (λ _. Unit {0})) → (over ≡ false → MatchTurn turn (λ _. Unit {0}) (λ _. ⊥)) → IsOpen valid_key key valid_value value trie (record o { seat = s; run = m; turn = turn; over = over })
         stays_open over ends goes = record {
-          pass = record { seat = refl; bare = refl; is_mode = x.pass.is_mode; is_pass = x.pass.is_pass; sound = x.pass.sound; rest = x.pass.rest; blamed = x.pass.blamed };
+          pass = record { seat = x.pass.seat; bare = refl; is_mode = x.pass.is_mode; is_pass = x.pass.is_pass; sound = x.pass.sound; rest = x.pass.rest; blamed = x.pass.blamed };
           table = table ∙ x.table;
           bare = bare ∙ x.bare;
           kept = x.kept;

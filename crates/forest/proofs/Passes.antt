@@ -1,5 +1,5 @@
 -- What a call leaves of a pass.
-use Rattle.std.proofs.Common.{◌≡◌, ◌≢◌, ℕ, ◌+◌, ◌≤◌, List, [], ◌∷◌, inl, refl, sym, ◌∙◌, ap, subst, arith}
+use Rattle.std.proofs.Common.{◌≡◌, ◌≢◌, ℕ, ◌+◌, ◌≤◌, List, [], inl, refl, sym, ◌∙◌, ap, subst, arith}
 use Rattle.atomic_table.specs.declared.shared.Seat.{Seat}
 use Rattle.histories.specs.Common.{Layout, Step, Fill, History, Opening, Opened, Start, Lawful, Call, IsRun, Shaped, Mode}
 use Rattle.arena.specs.Share.{whole_share}
@@ -8,16 +8,16 @@ use Rattle.prims.specs.declared.snap.Snap.{Snap}
 use Rattle.forest.specs.declared.view.SeatedPass.{SeatedPass}
 use Rattle.forest.specs.declared.view.SeatView.{SeatView}
 use Rattle.forest.specs.declared.pass.Pass.TheInside.{Inside}
-use Rattle.forest.specs.TableRule.{history_of, seated_pass}
-use Rattle.forest.specs.Traces.{Trace, HoldsForCall, known_of, planting_of, run_at, rows_of, seat_steps}
+use Rattle.forest.specs.TableRule.{history_of}
+use Rattle.forest.specs.Traces.{IsSeated, Trace, HoldsForCall, known_of, planting_of, rested_of, run_at, rows_of, seat_steps}
 use Rattle.forest.specs.Shares.{IsBetweenCalls}
 use Rattle.forest.specs.Passes.{PassView, Ground, IsOf, AreOfCall, CanUse, HasGoneOn, HasTakenNothing, IsLaterView, run_of}
 use Rattle.forest.specs.PassInvariant.{pass_view, IsPass}
 use Rattle.prims.proofs.Lemmas.{whole_untouched, none_taken, next_unwon, usable_since}
 use Rattle.forest.proofs.Frames.{CarriesOn}
 use Rattle.forest.proofs.Calls.{quiet_goes}
-use Rattle.forest.proofs.Advances.{seat_back}
-use Rattle.forest.proofs.Called.{own_start, course_calls}
+use Rattle.forest.proofs.Advances.{call_back}
+use Rattle.forest.proofs.Called.{own_start, course_calls, course_since}
 use Rattle.forest.proofs.Blames.{blamed_later}
 
 begins_lawful : (lay : Layout) → Lawful lay (Start lay.mode)
@@ -42,7 +42,7 @@ call_of p x number = record { layout = p.layout; pass = p.number.0; is_pass = x.
 
 -- a call of it begins where P holds of what it knows
 pub begun_with : {allows : Layout → History → ℕ → Type 0} {mode : Mode} {T : Type 0} (p : Inside T) (x : IsPass allows mode p) (number : ℕ) {P : History → Type 0} → P (run_at p.seat.me.0.passes) → HoldsForCall allows p.seat.me.0.passes (call_of p x number) (λ h. ((call_of p x number).start ≡ h) × P h)
-begun_with p x number holds = record { planting = planting_of p.seat.me.0.passes; known = known_of p.seat.me.0.passes; is = x.seat; sound = x.sound; so = (refl, holds) }
+begun_with p x number holds = record { planting = planting_of p.seat.me.0.passes; known = known_of p.seat.me.0.passes; is = record { rested = rested_of p.seat.me.0.passes; alone = x.seat.alone; since = x.seat.since }; sound = x.sound; so = (refl, holds) }
 
 -- the pass with its seat as it is now
 abbrev pub seated : {T : Type 0} → Inside T → Seat ℕ SeatView → Inside T
@@ -50,16 +50,16 @@ seated p s = record p { seat = s }
 
 -- what the pass has after a call that takes nothing
 pub record HasOnlyLoaded (allows : Layout → History → ℕ → Type 0) {T : Type 0} (p : Inside T) (s : Seat ℕ SeatView) (number : ℕ) (A : History → Type 0) : Type 0 where
-  pub seat : s.me.0.passes ≡ seated_pass p.number.0 p.layout (planting_of s.me.0.passes) (known_of s.me.0.passes) ∷ []
+  pub seat : IsSeated p.number.0 p.layout s.me.0.passes
   pub answers : A (run_at s.me.0.passes)
   pub goes : CarriesOn allows p.layout p.number.0 (run_at p.seat.me.0.passes) (run_at s.me.0.passes) p.share p.share.next_node p.share.next_scx []
   pub calls : AreOfCall p.number.0 number (run_at p.seat.me.0.passes) (run_at s.me.0.passes)
 
 pub called : {allows : Layout → History → ℕ → Type 0} {mode : Mode} {T : Type 0} (p : Inside T) (x : IsPass allows mode p) (s : Seat ℕ SeatView) (number : ℕ) {M : Type 0} (waits : M → Call → History → Step → Type 0) (same : M → M → Type 0) (first m : M) (A : History → Type 0) → ((m : M) (h : History) (t : Step) → waits m (call_of p x number) h t → t.kind ≢ Fill) → HoldsForCall allows s.me.0.passes (call_of p x number) (λ h. A h × Trace allows waits same (call_of p x number) first m h) → HasOnlyLoaded allows p s number A
 called {allows} p x s number waits same first m A fills_not y =
-    let run : history_of y.planting y.known ≡ run_at s.me.0.passes = sym (ap run_at y.is) in
+    let run : history_of y.planting y.known ≡ run_at s.me.0.passes = sym (ap run_at y.is.alone) in
     record {
-      seat = seat_back s.me.0.passes p.number.0 p.layout y.planting y.known y.is;
+      seat = call_back s.me.0.passes (call_of p x number) y.planting y.known y.is (course_since (call_of p x number) m _ y.so.1);
       answers = subst A run y.so.0;
       goes = subst (λ h. CarriesOn allows p.layout p.number.0 (run_at p.seat.me.0.passes) h p.share p.share.next_node p.share.next_scx []) run (quiet_goes waits same (call_of p x number) first p.share fills_not x.sound x.rest m _ y.so.1);
       calls = subst (λ h. AreOfCall p.number.0 number (run_at p.seat.me.0.passes) h) run (course_calls (call_of p x number) m _ y.so.1);
@@ -97,8 +97,8 @@ goes_nowhere p x number most = record {
 }
 
 -- its steps are those of its seat
-pub steps_are : (c : ℕ) (lay : Layout) (ps : List SeatedPass) → ps ≡ seated_pass c lay (planting_of ps) (known_of ps) ∷ [] → seat_steps ps ≡ rows_of c (known_of ps)
-steps_are c lay ps e = ap seat_steps e
+pub steps_are : (c : ℕ) (lay : Layout) (ps : List SeatedPass) → IsSeated c lay ps → seat_steps ps ≡ rows_of c (known_of ps)
+steps_are c lay ps e = ap seat_steps e.alone
 
 -- and its run is extended
 pub called_goes_on : {allows : Layout → History → ℕ → Type 0} {mode : Mode} {T : Type 0} (p : Inside T) (x : IsPass allows mode p) (s : Seat ℕ SeatView) (number : ℕ) (A : History → Type 0) (left most : ℕ) → s.table_id ≡ p.seat.table_id → s.me.1 ≡ p.seat.me.1 → HasOnlyLoaded allows p s number A → seat_steps s.me.0.passes ≤ seat_steps p.seat.me.0.passes + left → left ≤ most → HasGoneOn allows (pass_view p) (pass_view (seated p s)) number most p.blamed

@@ -13,19 +13,19 @@ use Rattle.prims.specs.declared.put.PutAt.TheVariants.{Start as PutStart}
 use Rattle.arena.specs.Share.{after_taking}
 use Rattle.forest.specs.declared.view.SeatView.{SeatView}
 use Rattle.forest.specs.declared.pass.Pass.TheInside.{Inside}
-use Rattle.forest.specs.TableRule.{history_of, seated_pass}
-use Rattle.forest.specs.Traces.{Trace, HoldsForCall, known_of, seat_steps, planting_of, run_at}
+use Rattle.forest.specs.TableRule.{history_of}
+use Rattle.forest.specs.Traces.{IsSeated, Trace, HoldsForCall, seat_steps, run_at}
 use Rattle.forest.specs.Shares.{entries_of}
 use Rattle.forest.specs.Puts.{IsPutOver}
 use Rattle.forest.specs.Passes.{AreOfCall, HasGoneOn, IsLaterView, CanUse, HasLeftAlone, Each, ScxSays, done_of, taken_of}
 use Rattle.forest.specs.PassInvariant.{pass_view, IsPass}
 use Rattle.forest.proofs.Frames.{CarriesOn}
 use Rattle.forest.proofs.Calls.{HasHand, course_keeps, put_goes, put_rests}
-use Rattle.forest.proofs.Called.{course_calls}
+use Rattle.forest.proofs.Called.{course_calls, course_since}
 use Rattle.forest.proofs.Passes.{begun_with, call_of, can_use_later, steps_are}
 use Rattle.forest.proofs.Blames.{blamed_later}
 use Rattle.forest.proofs.VlxCalls.{each_at}
-use Rattle.forest.proofs.Advances.{seat_back}
+use Rattle.forest.proofs.Advances.{call_back}
 
 -- Entries
 
@@ -119,7 +119,7 @@ module _ {T : Type 0} (p : Inside T) (x : IsPass AllowsAll Records p) (some_node
 
   -- what the pass has after the call
   pub record HasPut (s : Seat ℕ SeatView) (a : Scx) : Type 0 where
-    pub seat : s.me.0.passes ≡ seated_pass p.number.0 p.layout (planting_of s.me.0.passes) (known_of s.me.0.passes) ∷ []
+    pub seat : IsSeated p.number.0 p.layout s.me.0.passes
     pub run : PutRun
     pub is_of : Is run
     pub answers : PutAnswers run (call_of p x number) (run_at s.me.0.passes) a
@@ -131,9 +131,9 @@ module _ {T : Type 0} (p : Inside T) (x : IsPass AllowsAll Records p) (some_node
 
   pub put_called : (s : Seat ℕ SeatView) (first m : PutRun) (a : Scx) → Is first → HoldsForCall AllowsAll s.me.0.passes (call_of p x number) (λ h. PutAnswers m (call_of p x number) h a × Trace AllowsAll (PutWaits AllowsAll) Same (call_of p x number) first m h) → HasPut s a
   put_called s first m a of y =
-      let now : history_of y.planting y.known ≡ run_at s.me.0.passes = sym (ap run_at y.is) in
+      let now : history_of y.planting y.known ≡ run_at s.me.0.passes = sym (ap run_at y.is.alone) in
       record {
-        seat = seat_back s.me.0.passes p.number.0 p.layout y.planting y.known y.is;
+        seat = call_back s.me.0.passes (call_of p x number) y.planting y.known y.is (course_since (call_of p x number) m _ y.so.1);
         run = m;
         is_of = course_keeps Is of (λ old now e q. put_same old now snaps finalize field v p.share.next_node p.share.next_scx number e q) m _ y.so.1;
         answers = subst (λ h. PutAnswers m (call_of p x number) h a) now y.so.0;

@@ -81,7 +81,7 @@ module _ {K V : Type 0} (valid_key : K → Type 0) (key : K → ℕ) (valid_valu
     -- it has made steps of its kinds alone
     pub dict_kinds : (first : DictRun K V) → HoldsForCall allows s.me.0.passes call (λ h. Ended h × Trace allows waits same call first m h) → HasKeptToKinds (pass_view p) now (call_in m.run)
     dict_kinds first y =
-        let run : history_of y.planting y.known ≡ run_at s.me.0.passes = sym (ap run_at y.is) in
+        let run : history_of y.planting y.known ≡ run_at s.me.0.passes = sym (ap run_at y.is.alone) in
         let is : call_in m.run ≡ call_in first.run = (course_keeps (λ (k : DictRun K V). IsSameCall valid_key key valid_value value_word first k) (refl, refl) (λ old now e q. (e.0 ∙ q.0, e.1 ∙ q.1)) m _ y.so.1).0 in
         subst (λ (h : History). HoldsOfOwn (λ r. (call_rules (call_in m.run)).MayMake r.kind) p.number.0 (run_of (pass_view p)) h) run
         (course_holds waits same call first (λ r. (call_rules (call_in m.run)).MayMake r.kind) (λ (k : DictRun K V). call_in k.run ≡ call_in m.run) (sym is) (λ old now e q. e.0 ∙ q) (λ k h t q w. subst (λ (asked : MapCall). (call_rules asked).MayMake t.kind) q (kind_inside (inner k.run) (is_of_kind k.run) call h t w.1.1)) m _ y.so.1).1

@@ -53,7 +53,7 @@ module _ {L : Type 0} (list : L → List Snap) {allows : Layout → History → 
   -- it has loaded info words alone
   pub vlx_kinds : (s : Seat ℕ SeatView) (snaps : L) (a : Vlx) → SeatVlxEnds list allows (call_of p x number) s.me.0.passes snaps a → HasLoadedInfosAlone (pass_view p) (pass_view (seated p s))
   vlx_kinds s snaps a y =
-      let run : history_of y.1.planting y.1.known ≡ run_at s.me.0.passes = sym (ap run_at y.1.is) in
+      let run : history_of y.1.planting y.1.known ≡ run_at s.me.0.passes = sym (ap run_at y.1.is.alone) in
       subst (λ (h : History). HoldsOfOwn (λ r. r.kind ≡ LoadInfo) p.number.0 (run_of (pass_view p)) h) run
       (course_holds (waits_over list) AreSameSnaps (call_of p x number) (vlx_at snaps 0) (λ r. r.kind ≡ LoadInfo) (λ m. Unit {0}) tt (λ old now is q. tt) (λ k h t q w. ap (λ (step : Step). step.kind) w.asked) y.0 _ y.1.so.1).1
 

@@ -3,21 +3,22 @@ use Rattle.std.proofs.Common.{◌≡◌, ℕ, List, refl, sym, true≢false}
 use Rattle.arena.specs.Layout.{IsMap}
 use Rattle.arena.specs.declared.limits.Mode.{Mode}
 use Rattle.arena.specs.declared.limits.Mode.TheVariants.{Records}
-use Rattle.histories.specs.Common.{Layout, Row, Step, History, Call, IsRun, row_of}
+use Rattle.histories.specs.Common.{Layout, Row, Step, History, Extends, Call, IsRun, row_of}
 use Rattle.dict.specs.DictKnown.{DictWaits}
 use Rattle.dict.specs.declared.dict.DictRun.{DictRun}
 use Rattle.touching.specs.Steps.{IsMapStep}
 use Rattle.forest.specs.declared.rule.CallStep.{CallStep}
 use Rattle.forest.specs.declared.view.SeatedPass.{SeatedPass}
-use Rattle.forest.specs.TableRule.{ByOthers, past_of, row}
+use Rattle.forest.specs.TableRule.{ByOthers, history_of, past_of, row}
 
 -- The step of a pass is one of a map's call of it, whatever rows of others come before: a machine
--- of that call waits for it.
+-- of that call waits for it. The call began when the pass had rested last, or later.
 pub record IsOfMapCall (allows : Layout → History → ℕ → Type 0) (said : CallStep) (p : SeatedPass) : Type 0 where
   pub call : Call
   pub layout : call.layout ≡ p.layout
   pub pass : call.pass ≡ p.number.0
   pub number : call.number ≡ said.call
+  pub since : Extends call.start (history_of p.planting p.rested)
   pub step : (others : List Row) → ByOthers p.number.0 others → IsRun allows p.layout (past_of p others) → IsMapStep call (past_of p others) (row p.number.0 said (past_of p others))
 
 -- so it is with each step for which the machine of a dictionary waits

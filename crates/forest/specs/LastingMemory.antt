@@ -1,6 +1,6 @@
 -- What passes of a table that lasts remember from one call to the next, and when it is so.
 use Rattle.std.specs.Prelude.{◌≡◌, ◌<◌, ◌⊎◌, ℕ, true, false, List, [], ◌∷◌, Option, Some, None, slice_index}
-use Rattle.histories.specs.Common.{Layout, Word, History, Extends, IsWord, IsTakenNode, place, log, is_final}
+use Rattle.histories.specs.Common.{Layout, Row, Word, History, Extends, IsWord, IsTakenNode, place, log, is_final}
 use Rattle.planting.specs.Plantings.{PlantingView}
 use Rattle.touching.specs.Left.{HasLeft}
 use Rattle.resting.specs.Dead.{IsDead, IsMarkedRecord, IsUnborn, WasDoneWith}
@@ -102,12 +102,12 @@ pub record RemembersNames (t : Lasting) (planting : PlantingView) (now : Present
   pub empty : Each (IsEmptySlot t o now) m.empty
   pub zeros : Each (IsZeroWord t o now) m.zeros
 
--- what the pass remembers is so
-pub record RemembersWell (t : Lasting) (planting : PlantingView) (now : Present) (o : ℕ) (m : Memory) : Type 0 where
+-- what the pass remembers is so, if it has rested last after these rows
+pub record RemembersWell (t : Lasting) (planting : PlantingView) (now : Present) (o : ℕ) (rows : List Row) (m : Memory) : Type 0 where
   pub away : m.away ≡ now.tally.away o
   pub often : m.often ≡ now.tally.count o
-  -- while it is there it has last rested when it remembers
-  pub rested : m.away ≡ false → now.last o ≡ history_of planting m.rested
+  -- it has, while it is there
+  pub rested : m.away ≡ false → now.last o ≡ history_of planting rows
   pub names : RemembersNames t planting now o m
 
 -- so it is with each of these passes, by what it remembers, in the same order
@@ -115,4 +115,4 @@ abbrev pub RememberWell : Lasting → PlantingView → Present → List SeatedPa
 RememberWell t planting now [] [] = Unit {0}
 RememberWell t planting now [] (m ∷ ms) = ⊥
 RememberWell t planting now (p ∷ ps) [] = ⊥
-RememberWell t planting now (p ∷ ps) (m ∷ ms) = RemembersWell t planting now p.number.0 m × RememberWell t planting now ps ms
+RememberWell t planting now (p ∷ ps) (m ∷ ms) = RemembersWell t planting now p.number.0 p.rested m × RememberWell t planting now ps ms

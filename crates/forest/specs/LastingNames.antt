@@ -48,11 +48,9 @@ node_ahead m count = Node record { 0 = m.nodes_to + count }
 abbrev pub scx_ahead : Memory → ℕ → RecordNo
 scx_ahead m count = Scx record { 0 = m.scx_to + count }
 
--- What is remembered once the slot holds the name, and names up to these two are dealt: the pass
--- has rested, after these rows.
-abbrev pub memory_with : Memory → (name slot : RecordNo) → (nodes_to scx_to : ℕ) → List Row → Memory
-memory_with m name slot nodes_to scx_to rows = record m {
-  rested = rows;
+-- what is remembered once the slot holds the name, and names up to these two are dealt
+abbrev pub memory_with : Memory → (name slot : RecordNo) → (nodes_to scx_to : ℕ) → Memory
+memory_with m name slot nodes_to scx_to = record m {
   nodes_to = nodes_to;
   scx_to = scx_to;
   holds = name ∷ m.holds;
@@ -61,10 +59,10 @@ memory_with m name slot nodes_to scx_to rows = record m {
 }
 
 -- so it is once so many names of nodes are passed over, and the next is held; and of SCX-records
-abbrev pub memory_with_node : Memory → (count : ℕ) → RecordNo → List Row → Memory
+abbrev pub memory_with_node : Memory → (count : ℕ) → RecordNo → Memory
 memory_with_node m count slot = memory_with m (node_ahead m count) slot (m.nodes_to + suc count) m.scx_to
 
-abbrev pub memory_with_scx : Memory → (count : ℕ) → RecordNo → List Row → Memory
+abbrev pub memory_with_scx : Memory → (count : ℕ) → RecordNo → Memory
 memory_with_scx m count slot = memory_with m (scx_ahead m count) slot m.nodes_to (m.scx_to + suc count)
 
 -- A pass that is there and between two calls, which has so much left of its share, may give the

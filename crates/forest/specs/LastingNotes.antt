@@ -19,9 +19,9 @@ use Rattle.forest.specs.declared.view.SeatedPass.{SeatedPass}
 abbrev pub noted_as : RecordNo → NoteView → Noted
 noted_as name note = record { name = name; note = note }
 
--- what is remembered of a rest after these rows
-abbrev pub memory_rested : Memory → List Row → Memory
-memory_rested m rows = record m { rested = rows; away = false; often = suc m.often }
+-- what is remembered of a rest
+abbrev pub memory_rested : Memory → Memory
+memory_rested m = record m { away = false; often = suc m.often }
 
 -- what is remembered while the pass is away
 abbrev pub memory_away : Memory → Memory
@@ -53,7 +53,7 @@ rested_poll q rows = record { pass = record { 0 = q }; since = rows; waits = Non
 -- each since a moment of its own.
 pub record HasRestedSince (lay : Layout) (p : SeatedPass) (m : Memory) (rows : List Row) : Type 0 where
   pub there : m.away ≡ false
-  pub own : Extends (history_of p.planting m.rested) (history_of p.planting rows)
+  pub own : Extends (history_of p.planting p.rested) (history_of p.planting rows)
   pub others : (q : ℕ) → q < lay.passes → q ≢ p.number.0 → (since : List Row) × IsIn (rested_poll q since) m.polls × Extends (history_of p.planting since) (history_of p.planting rows)
 
 -- the note is of that moment, or of one before

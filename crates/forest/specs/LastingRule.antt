@@ -4,7 +4,7 @@ use Rattle.std.specs.Prelude.{◌≡◌, ◌++◌, ℕ, false, List, [], ◌∷�
 use mathlib.Core.Option.{some}
 use lib.ListN.{get_elem?}
 use Rattle.atomic_table.specs.Table.{State}
-use Rattle.histories.specs.Common.{Layout, Row, History, Extends, IsRun, Word, value}
+use Rattle.histories.specs.Common.{Layout, Row, History, IsRun, Word, value}
 use Rattle.planting.specs.Plantings.{PlantingView}
 use Rattle.resting.specs.Records.{record_of}
 use Rattle.slots.specs.Counts.{CountsRests, Tally}
@@ -45,44 +45,48 @@ abbrev pub TakesDealt : (Layout → History → ℕ → Type 0) → CallStep →
 TakesDealt allows said p m = (others : List Row) → ByOthers p.number.0 others → IsRun allows p.layout (past_of p others) → IsUntaken p.layout (past_of p others) (record_of said.step.word) → IsOwnRecord p.layout p.number.0 (record_of said.step.word) → IsDealt m (record_of said.step.word)
 
 -- A pass that remembers so much may make the step: it is there, and the step is lawful, and one of
--- a map's call that began when it had rested last, or later; and it takes names that are dealt.
+-- a map's call that began since its last rest; and it takes names that are dealt.
 pub record MayStepOn (allows : Layout → History → ℕ → Type 0) (said : CallStep) (p : SeatedPass) (m : Memory) : Type 0 where
   pub may : MayStep allows said p
   pub of_call : IsOfMapCall allows said p
-  pub since : Extends of_call.call.start (history_of p.planting m.rested)
   pub there : m.away ≡ false
   pub dealt : TakesDealt allows said p m
 
--- the only pass of a seat has come to know the whole run, with which others have gone on
-pub record HasLearnt (allows : Layout → History → ℕ → Type 0) (ps : List SeatedPass) (rows : List Row) (qs : List SeatedPass) : Type 0 where
+-- The only pass of a seat has come to know the whole run, with which others have gone on. By then
+-- it has rested last after the rows that `rested` makes of those after which it had before.
+pub record HasLearnt (allows : Layout → History → ℕ → Type 0) (rested : List Row → List Row) (ps : List SeatedPass) (rows : List Row) (qs : List SeatedPass) : Type 0 where
   pub pass : SeatedPass
   pub others : List Row
   pub was : ps ≡ pass ∷ []
   pub by_others : ByOthers pass.number.0 others
   pub rows_are : rows ≡ others ++ pass.known
   pub run : IsRun allows pass.layout (past_of pass others)
-  pub is : qs ≡ seated_pass pass.number.0 pass.layout pass.planting rows ∷ []
+  pub is : qs ≡ seated_pass pass.number.0 pass.layout pass.planting (rested pass.rested) rows ∷ []
 
 -- So has the pass of a seat that remembers m; and it remembers by then what `after` makes of the
 -- run.
 abbrev pub LearnsWith : (Layout → History → ℕ → Type 0) → (List Row → Memory) → LastingView → LastingView → Type 0
-LearnsWith allows after v w = (rows : List Row) × HasLearnt allows v.passes rows w.passes × (w.memories ≡ after rows ∷ [])
+LearnsWith allows after v w = (rows : List Row) × HasLearnt allows (λ old. old) v.passes rows w.passes × (w.memories ≡ after rows ∷ [])
+
+-- so has one that rests now, and remembers so much by then
+abbrev pub LearnsAtRest : (Layout → History → ℕ → Type 0) → Memory → LastingView → LastingView → Type 0
+LearnsAtRest allows after v w = (rows : List Row) × HasLearnt allows (λ old. rows) v.passes rows w.passes × (w.memories ≡ after ∷ [])
 
 -- The only pass of a seat has come to know the run, and remembers what it did; and in that run the
 -- word was n.
 pub record LoadsWord (allows : Layout → History → ℕ → Type 0) (m : Memory) (u : Word) (n : ℕ) (v w : LastingView) : Type 0 where
   pub rows : List Row
-  pub learnt : HasLearnt allows v.passes rows w.passes
+  pub learnt : HasLearnt allows (λ old. old) v.passes rows w.passes
   pub memory : w.memories ≡ m ∷ []
   pub value : (p : SeatedPass) → v.passes ≡ p ∷ [] → value (history_of p.planting rows) u ≡ n
 
--- The only pass of a seat has come to know the run, and has gone on by rows of its own; then it
--- remembers what `after` makes of the run.
-pub record GoesOnWith (allows : Layout → History → ℕ → Type 0) (on : PlantingView → List Row → List Row) (after : List Row → Memory) (v w : LastingView) : Type 0 where
+-- The only pass of a seat has come to know the run, has gone on by rows of its own, and rests now;
+-- and by then it remembers so much.
+pub record GoesOnWith (allows : Layout → History → ℕ → Type 0) (on : PlantingView → List Row → List Row) (after : Memory) (v w : LastingView) : Type 0 where
   pub pass : SeatedPass
   pub others : List Row
   pub was : v.passes ≡ pass ∷ []
   pub by_others : ByOthers pass.number.0 others
   pub run : IsRun allows pass.layout (history_of pass.planting (on pass.planting (others ++ pass.known)))
-  pub passes : w.passes ≡ seated_pass pass.number.0 pass.layout pass.planting (on pass.planting (others ++ pass.known)) ∷ []
-  pub memories : w.memories ≡ after (on pass.planting (others ++ pass.known)) ∷ []
+  pub passes : w.passes ≡ (let rows : List Row = on pass.planting (others ++ pass.known) in seated_pass pass.number.0 pass.layout pass.planting rows rows) ∷ []
+  pub memories : w.memories ≡ after ∷ []

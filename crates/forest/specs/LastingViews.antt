@@ -47,7 +47,6 @@ scx_from from (suc count) = Scx record { 0 = from } ∷ scx_from (suc from) coun
 -- what a pass remembers at the start: its names of the first lap are dealt, and held
 abbrev pub first_memory : Lasting → ℕ → Memory
 first_memory t c = record {
-  rested = [];
   away = false;
   often = 0;
   nodes_to = first_node t.lay c + t.table.nodes;

@@ -34,13 +34,14 @@ open_view o = record {
   over = o.over;
 }
 
--- The fields of this pass, at a seat that has it alone, from what contracts see of it.
+-- The fields of this pass, at a seat that has it alone, from what contracts see of it, which is not
+-- when it rested last.
 abbrev pub pass_as : {T : Type 0} → PassView → Seat ℕ SeatView → pass.Inside T
 pass_as p s = record {
   number = record { 0 = p.number };
   layout = p.layout;
   share = p.share;
-  seat = record s { table_id = p.table; me = (record { passes = seated_pass p.number p.layout p.planting p.known ∷ [] }, []) };
+  seat = record s { table_id = p.table; me = (record { passes = seated_pass p.number p.layout p.planting [] p.known ∷ [] }, []) };
   blamed = p.blamed;
   shape = record {};
 }

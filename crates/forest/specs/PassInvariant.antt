@@ -1,9 +1,8 @@
 -- What is true of the fields of every pass.
-use Rattle.std.specs.Prelude.{◌≡◌, ◌<◌, ℕ, [], ◌∷◌}
+use Rattle.std.specs.Prelude.{◌≡◌, ◌<◌, ℕ, []}
 use Rattle.histories.specs.Common.{Mode, Layout, History, IsRun}
 use Rattle.forest.specs.declared.pass.Pass.TheInside.{Inside}
-use Rattle.forest.specs.TableRule.{seated_pass}
-use Rattle.forest.specs.Traces.{known_of, planting_of, run_at}
+use Rattle.forest.specs.Traces.{IsSeated, known_of, planting_of, run_at}
 use Rattle.forest.specs.Shares.{IsBetweenCalls}
 use Rattle.forest.specs.Passes.{PassView, HasBlamed}
 
@@ -14,7 +13,7 @@ pass_view p = record { table = p.seat.table_id; layout = p.layout; planting = pl
 -- what holds of every pass: its seat has it alone; in the run that it knows, a lawful one of a
 -- table of this mode, it is between two calls
 pub record IsPass (allows : Layout → History → ℕ → Type 0) (mode : Mode) {T : Type 0} (p : Inside T) : Type 0 where
-  pub seat : p.seat.me.0.passes ≡ seated_pass p.number.0 p.layout (planting_of p.seat.me.0.passes) (known_of p.seat.me.0.passes) ∷ []
+  pub seat : IsSeated p.number.0 p.layout p.seat.me.0.passes
   pub bare : p.seat.me.1 ≡ []
   pub is_mode : p.layout.mode ≡ mode
   pub is_pass : p.number.0 < p.layout.passes

@@ -1,6 +1,6 @@
 -- The course of a call: the rows that the run has got while it was made.
 use Rattle.std.specs.Prelude.{◌≡◌, ◌≢◌, ◌==◌, if◌then◌else◌, ℕ, suc, List, [], ◌∷◌, Option, Some, None}
-use Rattle.histories.specs.Common.{Layout, Row, Step, History, ◌⊳◌, Call, IsRun, MatchTurn, row_of, Turn, Ask, Done, most_taken}
+use Rattle.histories.specs.Common.{Layout, Row, Step, History, ◌⊳◌, Extends, Call, IsRun, MatchTurn, row_of, Turn, Ask, Done, most_taken}
 use Rattle.forest.specs.declared.view.SeatedPass.{SeatedPass}
 use Rattle.arena.specs.declared.limits.Mode.TheVariants.{Records}
 use Rattle.planting.specs.Plantings.{PlantingView, nothing_planted}
@@ -17,11 +17,18 @@ pub data Trace {M : Type 0} (allows : Layout → History → ℕ → Type 0) (wa
   -- the machine continued, with what it got
   goes_on : {m : M} {h : History} (old : M) → same old m → Trace allows waits same c first old h → Trace allows waits same c first m h
 
--- the seat has the pass of the call alone, and P holds of the run that the pass knows
+-- The seat has the pass of the call alone, which knows these rows; and the call began when the pass
+-- had rested last, or later.
+pub record IsInCall (ps : List SeatedPass) (c : Call) (planting : PlantingView) (known : List Row) : Type 0 where
+  pub rested : List Row
+  pub alone : ps ≡ seated_pass c.pass c.layout planting rested known ∷ []
+  pub since : Extends c.start (history_of planting rested)
+
+-- so it is in the call, and P holds of the run that the pass knows
 pub record HoldsForCall (allows : Layout → History → ℕ → Type 0) (ps : List SeatedPass) (c : Call) (P : History → Type 0) : Type 0 where
   pub planting : PlantingView
   pub known : List Row
-  pub is : ps ≡ seated_pass c.pass c.layout planting known ∷ []
+  pub is : IsInCall ps c planting known
   pub sound : IsRun allows c.layout (history_of planting known)
   pub so : P (history_of planting known)
 
@@ -80,6 +87,20 @@ known_of (p ∷ ps) = p.known
 -- the history of that run
 abbrev pub run_at : List SeatedPass → History
 run_at ps = history_of (planting_of ps) (known_of ps)
+
+-- the run that it knew as it rested last
+abbrev pub rested_of : List SeatedPass → List Row
+rested_of [] = []
+rested_of (p ∷ ps) = p.rested
+
+abbrev pub rest_at : List SeatedPass → History
+rest_at ps = history_of (planting_of ps) (rested_of ps)
+
+-- A seat has the pass of this number alone, which has rested last at a moment of the run that it
+-- knows.
+pub record IsSeated (n : ℕ) (lay : Layout) (ps : List SeatedPass) : Type 0 where
+  pub alone : ps ≡ seated_pass n lay (planting_of ps) (rested_of ps) (known_of ps) ∷ []
+  pub since : Extends (run_at ps) (rest_at ps)
 
 -- a seat's one pass knows these rows, in a table that is planted so
 abbrev pub KnowsAs : List SeatedPass → PlantingView → List Row → Type 0

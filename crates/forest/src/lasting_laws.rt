@@ -28,7 +28,7 @@ ghost use Rattle.slots.specs.Lasting.{Lasting, table_place};
 ghost use Rattle.forest.specs.LastingMemory.{record_at};
 ghost use Rattle.forest.specs.LastingNames.{MayTake, memory_with_node, memory_with_scx, node_ahead, past_nodes, past_scxs, scx_ahead};
 ghost use Rattle.forest.specs.LastingNotes.{memory_left, HasRestedSince, IsBefore, IsIn, IsUnused, memory_away, memory_done, memory_looked, memory_looked_at, memory_marked, memory_noted, memory_over, memory_polled, memory_rested, memory_unused, noted_as};
-ghost use Rattle.forest.specs.LastingRule.{LoadsWord, GoesOnWith, LearnsWith, MayStepOn, TableLasts};
+ghost use Rattle.forest.specs.LastingRule.{LoadsWord, GoesOnWith, LearnsAtRest, LearnsWith, MayStepOn, TableLasts};
 ghost use Rattle.forest.specs.LastingSlots.{WasTaken, IsLastDealt, IsLeft, memory_cleared, memory_given_back, memory_let_go};
 ghost use Rattle.forest.specs.LastingViews.{OpensLasting, first_of_view, first_view, joined_view, no_view, rest_of_view};
 ghost use Rattle.forest.specs.Passes.{Each};
@@ -45,8 +45,8 @@ ghost use Rattle.forest.specs.declared.view.SeatedPass.{SeatedPass};
 use arena::Shape;
 use resting::{dead_comes_back, notes_hold, unborn_stays_out};
 
-/// A pass that is there makes a step of a map's call that began when it had rested last, or later,
-/// on a word of a record in its slot. It tells what such a step tells in a table that is filled
+/// A pass that is there makes a step of a map's call that began since its last rest, on a word of a
+/// record in its slot. It tells what such a step tells in a table that is filled
 /// once, and leaves what the pass remembers. It does nothing; a caller learns this from its
 /// contract.
 pub fn steps_last<S: Shape>()
@@ -74,7 +74,7 @@ pub fn rests_last<S: Shape>()
         → AreFinished p.layout p.number.0 0 (past_of p [])
         → Allows (TableLasts S.allows t planting) slots id me (rests_place t.table p.number.0)
         (λ n. 2 * suc m.often)
-        (λ n w. LearnsWith S.allows (memory_rested m) me.0 w.0 × (w.1 ≡ me.1)) }
+        (λ n w. LearnsAtRest S.allows (memory_rested m) me.0 w.0 × (w.1 ≡ me.1)) }
     ensures leaves { (t : Lasting) (planting : PlantingView)
         (slots id : ℕ) (me : Me ℕ LastingView) (p : SeatedPass) (m : Memory)
         → me.0.passes ≡ p ∷ [] → me.0.memories ≡ m ∷ [] → p.number.0 < t.lay.passes
@@ -160,13 +160,13 @@ pub fn names_last<S: Shape>()
         (slot : RecordNo) → me.0.passes ≡ p ∷ [] → me.0.memories ≡ m ∷ []
         → MayTake t p m left (node_ahead m 0) slot → IsLeft left (record_at (node_ahead m 0))
         → Allows (TableLasts S.allows t planting) slots id me at (λ n. n)
-        (λ n w. LearnsWith S.allows (memory_with_node m 0 slot) me.0 w.0 × (w.1 ≡ me.1)) }
+        (λ n w. LearnsAtRest S.allows (memory_with_node m 0 slot) me.0 w.0 × (w.1 ≡ me.1)) }
     ensures next_scx { (t : Lasting) (planting : PlantingView) (slots id : ℕ)
         (me : Me ℕ LastingView) (p : SeatedPass) (m : Memory) (at : ℕ) (left : Remaining)
         (slot : RecordNo) → me.0.passes ≡ p ∷ [] → me.0.memories ≡ m ∷ []
         → MayTake t p m left (scx_ahead m 0) slot → IsLeft left (record_at (scx_ahead m 0))
         → Allows (TableLasts S.allows t planting) slots id me at (λ n. n)
-        (λ n w. LearnsWith S.allows (memory_with_scx m 0 slot) me.0 w.0 × (w.1 ≡ me.1)) }
+        (λ n w. LearnsAtRest S.allows (memory_with_scx m 0 slot) me.0 w.0 × (w.1 ≡ me.1)) }
     ensures nodes { (t : Lasting) (planting : PlantingView)
         (slots id : ℕ) (me : Me ℕ LastingView) (p : SeatedPass) (m : Memory) (at count : ℕ)
         (left : Remaining) (slot : RecordNo) → me.0.passes ≡ p ∷ []
@@ -225,7 +225,7 @@ pub fn sights_last<S: Shape>()
         (me : Me ℕ LastingView) (p : SeatedPass) (m : Memory) (at : ℕ) (name : RecordNo)
         → me.0.passes ≡ p ∷ [] → me.0.memories ≡ m ∷ [] → p.number.0 < t.lay.passes
         → m.away ≡ false
-        → IsUnused p.layout p.number.0 (record_at name) (history_of p.planting m.rested)
+        → IsUnused p.layout p.number.0 (record_at name) (history_of p.planting p.rested)
         → Allows (TableLasts S.allows t planting) slots id me at (λ n. n)
         (λ n w. LearnsWith S.allows (λ rows. memory_unused m name) me.0 w.0 × (w.1 ≡ me.1)) }
 {

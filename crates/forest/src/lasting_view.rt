@@ -43,8 +43,6 @@ pub struct Polled {
 
 /// What a pass remembers from one call to the next.
 pub struct Memory {
-    /// The run up to its last rest, the newest row first.
-    pub rested: LinkedList<Row>,
     /// Whether it is away.
     pub away: bool,
     /// How often it has rested.

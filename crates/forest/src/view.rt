@@ -4,7 +4,7 @@ use planting::Planting;
 use std::collections::LinkedList;
 
 /// A pass, the table's layout, what was planted in it, and the run up to the pass's own last step,
-/// newest row first.
+/// newest row first. In a table that lasts a pass rests between calls.
 pub struct SeatedPass {
     /// The number of the pass.
     pub number: PassNo,
@@ -12,6 +12,8 @@ pub struct SeatedPass {
     pub layout: Layout,
     /// What was planted in its table.
     pub planting: Planting,
+    /// The run up to its last rest, the newest row first: none in a table that does not last.
+    pub rested: LinkedList<Row>,
     /// The run up to its own last step, the newest row first.
     pub known: LinkedList<Row>,
 }
