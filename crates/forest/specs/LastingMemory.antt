@@ -25,7 +25,7 @@ record_at (Node n) = the_node n.0
 record_at (Scx s) = the_scx s.0
 
 -- Where a table is: its words, its run, for each pass a moment at which it has rested, what each
--- slot holds, and how often each pass has rested.
+-- slot holds, and how often each pass has rested and whether it is away.
 pub record Present : Type 0 where
   pub words : List ℕ
   pub run : History
@@ -55,7 +55,8 @@ abbrev pub IsDoneWith : Layout → History → Record → ℕ → Type 0
 IsDoneWith lay h (the_node n) j = Unit {0}
 IsDoneWith lay h (the_scx s) j = WasDoneWith lay h s j
 
--- The pass's note of a record is right; and if it is dead, or out of reach, it is gone.
+-- The pass's note of a record is right; and if it is dead, or out of reach, it is gone. A note of a
+-- node's place says that the SCX-record was done with that node.
 abbrev pub IsNoteSo : Layout → PlantingView → ℕ → Present → Record → NoteView → Type 0
 IsNoteSo lay planting o now x (MarkedOrDead rows) = Extends now.run (history_of planting rows) × (IsMarkedRecord x (history_of planting rows) ⊎ (IsDead lay o x (history_of planting rows) × IsGoneRecord lay now.run now.last x))
 IsNoteSo lay planting o now x (DeadBy rows) = IsRightNote lay o x now.run now.last (dead_by (history_of planting rows)) × IsGoneRecord lay now.run now.last x
@@ -86,14 +87,14 @@ pub record IsZeroWord (t : Lasting) (o : ℕ) (now : Present) (w : Word) : Type 
   pub none : now.held (record_of w) ≡ None
   pub zero : slice_index now.words (place t.table w) ≡ 0
 
--- the pass has dealt itself the name
+-- the name is one of those that the pass has dealt itself, or passed over
 abbrev pub IsDealt : Memory → Record → Type 0
 IsDealt m (the_node n) = n < m.nodes_to
 IsDealt m (the_scx s) = s < m.scx_to
 
 -- what the pass remembers of names, of slots and of others is so
 pub record RemembersNames (t : Lasting) (planting : PlantingView) (now : Present) (o : ℕ) (m : Memory) : Type 0 where
-  -- its names that are dealt and untaken are held, and of the others none
+  -- its names that are dealt and untaken are held, and none is that is not dealt
   pub dealt : (x : Record) → IsOwnRecord t.lay o x → IsDealt m x → IsUntaken t.lay now.run x → IsHeld t now.held x
   pub later : (x : Record) → IsOwnRecord t.lay o x → ¬ IsDealt m x → ¬ IsHeld t now.held x
   pub notes : Each (λ n. IsNoteSo t.lay planting o now (record_at n.name) n.note) m.notes

@@ -18,12 +18,12 @@ use Rattle.forest.specs.declared.lasting_view.RecordNo.{RecordNo}
 use Rattle.forest.specs.declared.lasting_view.RecordNo.TheVariants.{Node, Scx}
 use Rattle.forest.specs.declared.view.SeatedPass.{SeatedPass}
 
--- these rows, and behind them those by which the pass o passes over so many nodes from that one on
+-- these rows, and after them those by which the pass o passes over so many nodes from that one on
 abbrev pub past_nodes : (o from count : ℕ) → PlantingView → List Row → List Row
 past_nodes o from zero planting rows = rows
 past_nodes o from (suc count) planting rows = past_nodes o (suc from) count planting (row_over o Fill (node from (Settled Head)) 0 (history_of planting rows) ∷ rows)
 
--- the rows by which it passes over that SCX-record, before these
+-- these rows, and after them those by which it passes over that SCX-record
 abbrev pub scx_rows : (o s : ℕ) → PlantingView → List Row → List Row
 scx_rows o s planting rows =
     let one : Row = row_over o Fill (scx s Plan) 1 (history_of planting rows) in

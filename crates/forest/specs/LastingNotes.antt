@@ -88,8 +88,8 @@ memory_marked m name n rows = if n == 0 then m else record m { notes = noted_as 
 abbrev pub memory_left : Memory → NodeNo → List Row → Memory
 memory_left m n rows = record m { notes = noted_as (Node n) (MarkedOrDead rows) ∷ m.notes }
 
--- The name is the pass's own, taken as it rested, and by then was no node that was ever put in, and
--- no SCX-record that an info had named, which was finished.
+-- The name is the pass's own, taken as it rested: of a node that was never put in by then, or of a
+-- finished SCX-record that no info had named.
 abbrev pub IsUnused : Layout → ℕ → Record → History → Type 0
 IsUnused lay o (the_node n) rest = IsUnborn lay o rest n
 IsUnused lay o (the_scx s) rest = IsUnnamedScx lay o rest s
@@ -99,7 +99,7 @@ abbrev pub memory_unused : Memory → RecordNo → Memory
 memory_unused m name = record m { notes = noted_as name OutOfReach ∷ m.notes }
 
 -- what is remembered of an SCX-record that was done with its node of this place, as a look at the
--- node's info told, which was n, or as the pass knew
+-- node's info told, which was n, or as the pass knew; nothing if the info named that SCX-record
 abbrev pub memory_done : Memory → ScxNo → (j : ℕ) → Memory
 memory_done m s j = record m { notes = noted_as (Scx s) (DoneWith j) ∷ m.notes }
 

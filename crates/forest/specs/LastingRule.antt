@@ -25,7 +25,8 @@ abbrev pub plot_in : Lasting → PlantingView → Plot
 plot_in t planting = record { layout = t.lay; planting = planting }
 
 -- The words are a window on some lawful run, and count the rests of all passes; each pass knows a
--- beginning of the run, after which are rows of others alone; and what passes remember is so.
+-- beginning of the run, after which are rows of others alone; each node that was taken is held, or
+-- gone; and what passes remember is so.
 pub record TableLasts (allows : Layout → History → ℕ → Type 0) (t : Lasting) (planting : PlantingView) (s : State ℕ LastingView) : Type 0 where
   pub rows : List Row
   pub last : ℕ → History

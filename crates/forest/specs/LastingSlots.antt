@@ -27,7 +27,7 @@ memory_without t m name nodes_to scx_to = record m { nodes_to = nodes_to; scx_to
 abbrev pub memory_let_go : Lasting → Memory → RecordNo → Memory
 memory_let_go t m name = memory_without t m name m.nodes_to m.scx_to
 
--- so it is once a name is given back that nobody has taken, and all behind it
+-- so it is once the last name that is dealt is given back, which nobody has taken
 abbrev pub memory_given_back : Lasting → Memory → RecordNo → Memory
 memory_given_back t m (Node n) = memory_without t m (Node n) n.0 m.scx_to
 memory_given_back t m (Scx s) = memory_without t m (Scx s) m.nodes_to s.0

@@ -65,8 +65,8 @@ pub fn steps_last<S: Shape>()
     unborn_stays_out();
 }
 
-/// A pass that is between two calls rests, or comes back, by one store, and goes away by one. It
-/// does nothing; a caller learns this from its contract.
+/// A pass all of whose SCX-records are finished, as they are between two calls, rests, or comes back,
+/// by one store, and goes away by one. It does nothing; a caller learns this from its contract.
 pub fn rests_last<S: Shape>()
     ensures rests { (t : Lasting) (planting : PlantingView)
         (slots id : ℕ) (me : Me ℕ LastingView) (p : SeatedPass) (m : Memory)

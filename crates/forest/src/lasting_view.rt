@@ -47,7 +47,7 @@ pub struct Memory {
     pub away: bool,
     /// How often it has rested.
     pub often: u64,
-    /// Its names below this one are dealt: of these each is held until it is taken.
+    /// Its names below this one are dealt, or passed over: those that nobody has taken are held.
     pub nodes_to: u64,
     /// The same of SCX-records.
     pub scx_to: u64,
