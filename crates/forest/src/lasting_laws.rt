@@ -65,7 +65,7 @@ pub fn steps_last<S: Shape>()
     unborn_stays_out();
 }
 
-/// A pass all of whose SCX-records are finished, as they are between two calls, rests, or comes back,
+/// A pass all of whose SCX-records are finished, as they are between two calls, rests or comes back
 /// by one store, and goes away by one. It does nothing; a caller learns this from its contract.
 pub fn rests_last<S: Shape>()
     ensures rests { (t : Lasting) (planting : PlantingView)
