@@ -4,7 +4,7 @@ use Rattle.std.specs.Prelude.{◌≡◌, ◌++◌, ℕ, false, List, [], ◌∷�
 use mathlib.Core.Option.{some}
 use lib.ListN.{get_elem?}
 use Rattle.atomic_table.specs.Table.{State}
-use Rattle.histories.specs.Common.{Layout, Row, History, IsRun, Word, value}
+use Rattle.histories.specs.Common.{Layout, Fill, Row, History, IsRun, Word, value}
 use Rattle.planting.specs.Plantings.{PlantingView}
 use Rattle.resting.specs.Records.{record_of}
 use Rattle.slots.specs.Counts.{CountsRests, Tally}
@@ -40,18 +40,24 @@ pub record TableLasts (allows : Layout → History → ℕ → Type 0) (t : Last
   pub passes : (id : ℕ) (v : LastingView) → get_elem? s.views id ≡ some v → Owns (plot_in t planting) rows owner id v.passes
   pub memories : (id : ℕ) (v : LastingView) → get_elem? s.views id ≡ some v → RememberWell t planting (present s.words (history_of planting rows) last held tally) v.passes v.memories
 
--- What the step comes to of the pass's own that nobody has taken is dealt, whatever rows of others
+-- What the step comes to of the pass's own that nobody has taken, it fills, whatever rows of others
 -- come before.
-abbrev pub TakesDealt : (Layout → History → ℕ → Type 0) → CallStep → SeatedPass → Memory → Type 0
-TakesDealt allows said p m = (others : List Row) → ByOthers p.number.0 others → IsRun allows p.layout (past_of p others) → IsUntaken p.layout (past_of p others) (record_of said.step.word) → IsOwnRecord p.layout p.number.0 (record_of said.step.word) → IsDealt m (record_of said.step.word)
+abbrev pub FillsFresh : (Layout → History → ℕ → Type 0) → CallStep → SeatedPass → Type 0
+FillsFresh allows said p = (others : List Row) → ByOthers p.number.0 others → IsRun allows p.layout (past_of p others) → IsUntaken p.layout (past_of p others) (record_of said.step.word) → IsOwnRecord p.layout p.number.0 (record_of said.step.word) → said.step.kind ≡ Fill
+
+-- what the step fills is dealt
+abbrev pub FillsDealt : CallStep → Memory → Type 0
+FillsDealt said m = said.step.kind ≡ Fill → IsDealt m (record_of said.step.word)
 
 -- A pass that remembers so much may make the step: it is there, and the step is lawful, and one of
--- a map's call that began since its last rest; and it takes names that are dealt.
+-- a map's call that began since its last rest; and of names that nobody has taken it comes only to
+-- dealt ones, to fill them.
 pub record MayStepOn (allows : Layout → History → ℕ → Type 0) (said : CallStep) (p : SeatedPass) (m : Memory) : Type 0 where
   pub may : MayStep allows said p
   pub of_call : IsOfMapCall allows said p
   pub there : m.away ≡ false
-  pub dealt : TakesDealt allows said p m
+  pub fresh : FillsFresh allows said p
+  pub dealt : FillsDealt said m
 
 -- The only pass of a seat has come to know the whole run, with which others have gone on. By then
 -- it has rested last after the rows that `rested` makes of those after which it had before.
