@@ -12,11 +12,11 @@ use Rattle.forest.specs.LastingMemory.{Present, RememberWell, present}
 use Rattle.forest.specs.LastingRule.{TableLasts, plot_in}
 use Rattle.forest.specs.LastingViews.{first_memory_of, first_of_view, joined_view, no_view, rest_of_view, rest_of_memories}
 use Rattle.forest.specs.declared.lasting_view.LastingView.{LastingView}
-use Rattle.forest.specs.declared.lasting_view.Memory.{Memory}
+use Rattle.forest.specs.declared.lasting_view.PassMemory.{PassMemory}
 use Rattle.forest.specs.declared.view.SeatedPass.{SeatedPass}
 use Rattle.forest.proofs.Deals.{absent_of, merged, merged_else, moved, moved_here, owned_apart, owned_both, owned_by, snoc_at}
 
-remember_both : (t : Lasting) (planting : PlantingView) (now : Present) (ps qs : List SeatedPass) (ms ns : List Memory) → RememberWell t planting now ps ms → RememberWell t planting now qs ns → RememberWell t planting now (ps ++ qs) (ms ++ ns)
+remember_both : (t : Lasting) (planting : PlantingView) (now : Present) (ps qs : List SeatedPass) (ms ns : List PassMemory) → RememberWell t planting now ps ms → RememberWell t planting now qs ns → RememberWell t planting now (ps ++ qs) (ms ++ ns)
 remember_both t planting now [] qs [] ns a b = b
 remember_both t planting now [] qs (m ∷ ms) ns a b = absurd a
 remember_both t planting now (p ∷ ps) qs [] ns a b = absurd a
@@ -69,7 +69,7 @@ module _ (allows : Layout → History → ℕ → Type 0) (t : Lasting) (plantin
         remember_both t planting (present s.words (history_of planting kept.rows) kept.last kept.held kept.tally) v.passes w.passes v.memories w.memories (kept.memories id v at) (kept.memories other w there),
       )
 
-  splits_list : (id : ℕ) (v : LastingView) (ps : List SeatedPass) (ms : List Memory) → v.passes ≡ ps → v.memories ≡ ms → Splits (TableLasts allows t planting) id v record { passes = rest_of ps; memories = rest_of_memories ms } record { passes = first_of ps; memories = first_memory_of ms }
+  splits_list : (id : ℕ) (v : LastingView) (ps : List SeatedPass) (ms : List PassMemory) → v.passes ≡ ps → v.memories ≡ ms → Splits (TableLasts allows t planting) id v record { passes = rest_of ps; memories = rest_of_memories ms } record { passes = first_of ps; memories = first_memory_of ms }
   splits_list id v [] (m ∷ ms) is recalled s kept at = absurd (subst (λ ns. RememberWell t planting (present s.words (history_of planting kept.rows) kept.last kept.held kept.tally) [] ns) recalled (subst (λ qs. RememberWell t planting (present s.words (history_of planting kept.rows) kept.last kept.held kept.tally) qs v.memories) is (kept.memories id v at)))
   splits_list id v (p ∷ ps) [] is recalled s kept at = absurd (subst (λ ns. RememberWell t planting (present s.words (history_of planting kept.rows) kept.last kept.held kept.tally) (p ∷ ps) ns) recalled (subst (λ qs. RememberWell t planting (present s.words (history_of planting kept.rows) kept.last kept.held kept.tally) qs v.memories) is (kept.memories id v at)))
   splits_list id v [] [] is recalled s kept at = reseated s (set s.views id no_view ++ no_view ∷ []) kept kept.owner (λ j u e. ⊎_elim

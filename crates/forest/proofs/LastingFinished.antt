@@ -25,7 +25,7 @@ use Rattle.forest.specs.LastingMemory.{IsGone, IsHeldName, IsNoteSo, Present, Re
 use Rattle.forest.specs.LastingNotes.{IsIn, memory_done, memory_looked_at, memory_over, noted_as}
 use Rattle.forest.specs.LastingRule.{LearnsWith, TableLasts}
 use Rattle.forest.specs.declared.lasting_view.LastingView.{LastingView}
-use Rattle.forest.specs.declared.lasting_view.Memory.{Memory}
+use Rattle.forest.specs.declared.lasting_view.PassMemory.{PassMemory}
 use Rattle.forest.specs.declared.lasting_view.Noted.{Noted}
 use Rattle.forest.specs.declared.lasting_view.NoteView.TheVariants.{DoneWith, MarkedOrDead}
 use Rattle.forest.specs.declared.lasting_view.RecordNo.TheVariants.{Scx}
@@ -134,7 +134,7 @@ module _ (allows : Layout → History → ℕ → Type 0) (t : Lasting) (plantin
 abbrev pub Looks : Layout → Type 0
 Looks lay = (h : History) (s : ℕ) → IsMapRun lay h → s ≢ 0 → ((j : ℕ) → j < count h s → WasDoneWith lay h s j) → IsNamedByLeft lay h s
 
-module _ (allows : Layout → History → ℕ → Type 0) (t : Lasting) (planting : PlantingView) (stays : StaysUnborn t.lay) (slots id : ℕ) (me : Me ℕ LastingView) (p : SeatedPass) (m : Memory) (one : me.0.passes ≡ p ∷ []) (recalled : me.0.memories ≡ m ∷ []) (s : ScxNo) (held : IsIn (Scx s) m.holds) (taken : IsTakenScx (past_of p []) s.0) (between : AreFinished p.layout p.number.0 0 (past_of p [])) where
+module _ (allows : Layout → History → ℕ → Type 0) (t : Lasting) (planting : PlantingView) (stays : StaysUnborn t.lay) (slots id : ℕ) (me : Me ℕ LastingView) (p : SeatedPass) (m : PassMemory) (one : me.0.passes ≡ p ∷ []) (recalled : me.0.memories ≡ m ∷ []) (s : ScxNo) (held : IsIn (Scx s) m.holds) (taken : IsTakenScx (past_of p []) s.0) (between : AreFinished p.layout p.number.0 0 (past_of p [])) where
   module _ (st : State ℕ LastingView) (kept : TableLasts allows t planting st) (fits : get_elem? st.views id ≡ some me.0) where
     abbrev before : Present
     before = now allows t planting st kept id me.0 fits p m one recalled

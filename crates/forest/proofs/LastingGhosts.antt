@@ -18,7 +18,7 @@ use Rattle.forest.specs.LastingMemory.{AreHeldOrGone, Present, RememberWell, Rem
 use Rattle.forest.specs.LastingNotes.{IsIn}
 use Rattle.forest.specs.LastingRule.{TableLasts, plot_in}
 use Rattle.forest.specs.declared.lasting_view.LastingView.{LastingView}
-use Rattle.forest.specs.declared.lasting_view.Memory.{Memory}
+use Rattle.forest.specs.declared.lasting_view.PassMemory.{PassMemory}
 use Rattle.forest.specs.declared.view.SeatedPass.{SeatedPass}
 use Rattle.forest.proofs.LastingKept.{Later, Spares, StaysUnborn, remember_kept, remembers_kept, spared, views_kept}
 use Rattle.forest.proofs.LastingSeats.{apart, now, own, set_self, well}
@@ -37,15 +37,15 @@ later_moments t a next held moved w = record { run = w.run; within = ends_self a
 pub moments_stay : (t : Lasting) (h : History) (last : ℕ → History) → HaveRestedAt t.lay h last → HaveMovedOn t.lay h last last
 moments_stay t h last rested = record { rested = rested; within = λ o i. (rested o i).within; later = λ o i. ends_self (last o) }
 
-module _ (allows : Layout → History → ℕ → Type 0) (t : Lasting) (planting : PlantingView) (stays : StaysUnborn t.lay) (s : State ℕ LastingView) (kept : TableLasts allows t planting s) (id : ℕ) (v : LastingView) (fits : get_elem? s.views id ≡ some v) (p : SeatedPass) (m : Memory) (one : v.passes ≡ p ∷ []) (recalled : v.memories ≡ m ∷ []) (at : ℕ) where
+module _ (allows : Layout → History → ℕ → Type 0) (t : Lasting) (planting : PlantingView) (stays : StaysUnborn t.lay) (s : State ℕ LastingView) (kept : TableLasts allows t planting s) (id : ℕ) (v : LastingView) (fits : get_elem? s.views id ≡ some v) (p : SeatedPass) (m : PassMemory) (one : v.passes ≡ p ∷ []) (recalled : v.memories ≡ m ∷ []) (at : ℕ) where
   abbrev before : Present
   before = now allows t planting s kept id v fits p m one recalled
 
   -- what the table is after a load there, and what the pass remembers then
-  abbrev pub seen_by : (rested rows : List Row) → Memory → State ℕ LastingView
+  abbrev pub seen_by : (rested rows : List Row) → PassMemory → State ℕ LastingView
   seen_by rested rows after = record { words = slice_set s.words at (slice_index s.words at); homes = s.homes; views = slice_set s.views id record { passes = seated_pass p.number.0 p.layout p.planting rested rows ∷ []; memories = after ∷ [] } }
 
-  module _ (words : List ℕ) (rested rows : List Row) (next : ℕ → History) (held : Held) (after : Memory)
+  module _ (words : List ℕ) (rested rows : List Row) (next : ℕ → History) (held : Held) (after : PassMemory)
       (sound : IsRun allows t.lay (history_of planting rows))
       (window : IsWindow t words (history_of planting rows) next held)
       (counts : CountsRests t words (history_of planting rows) kept.tally)
@@ -64,7 +64,7 @@ module _ (allows : Layout → History → ℕ → Type 0) (t : Lasting) (plantin
     owned : Owns (plot_in t planting) kept.rows kept.owner id (p ∷ [])
     owned = own allows t planting s kept id v fits p m one recalled
 
-    others : (q : ℕ) (before_rest : List Row) (n : Memory) → q ≢ p.number.0 → RemembersWell t planting before q before_rest n → RemembersWell t planting there q before_rest n
+    others : (q : ℕ) (before_rest : List Row) (n : PassMemory) → q ≢ p.number.0 → RemembersWell t planting before q before_rest n → RemembersWell t planting there q before_rest n
     others q before_rest n d y = remembers_kept t planting before there later stays q before_rest n (spares q d) refl refl (rests q d) y
 
     -- the pass knows the run by then, and remembers so much
@@ -88,14 +88,14 @@ module _ (allows : Layout → History → ℕ → Type 0) (t : Lasting) (plantin
     }
 
   -- what a load shows of words is what they were
-  pub as_loaded : (rested rows : List Row) (after : Memory) → TableLasts allows t planting record { words = s.words; homes = s.homes; views = slice_set s.views id record { passes = seated_pass p.number.0 p.layout p.planting rested rows ∷ []; memories = after ∷ [] } } → TableLasts allows t planting (seen_by rested rows after)
+  pub as_loaded : (rested rows : List Row) (after : PassMemory) → TableLasts allows t planting record { words = s.words; homes = s.homes; views = slice_set s.views id record { passes = seated_pass p.number.0 p.layout p.planting rested rows ∷ []; memories = after ∷ [] } } → TableLasts allows t planting (seen_by rested rows after)
   as_loaded rested rows after x = subst (λ ws. TableLasts allows t planting record { words = ws; homes = s.homes; views = slice_set s.views id record { passes = seated_pass p.number.0 p.layout p.planting rested rows ∷ []; memories = after ∷ [] } }) (sym (set_self s.words at)) x
 
   recalls : RemembersWell t planting before p.number.0 p.rested m
   recalls = well allows t planting s kept id v fits p m one recalled
 
   -- a pass remembers more, and nothing else goes on
-  pub noted : (after : Memory) → after.away ≡ m.away → after.often ≡ m.often → RemembersNames t planting before p.number.0 after → TableLasts allows t planting (seen_by p.rested kept.rows after)
+  pub noted : (after : PassMemory) → after.away ≡ m.away → after.often ≡ m.often → RemembersNames t planting before p.number.0 after → TableLasts allows t planting (seen_by p.rested kept.rows after)
   noted after away often names =
       let moved = moments_stay t (history_of planting kept.rows) kept.last kept.window.rested in
       let later : Later t before before = later_moments t before kept.last kept.held moved kept.window in

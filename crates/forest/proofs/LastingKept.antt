@@ -22,7 +22,7 @@ use Rattle.forest.specs.TableRule.{Owns, history_of}
 use Rattle.forest.specs.LastingMemory.{HasPolledSo, IsEmptySlot, IsGone, IsGoneRecord, IsNoteSo, IsPollSo, IsZeroWord, Present, RememberWell, RemembersNames, RemembersWell, record_at}
 use Rattle.forest.specs.LastingRule.{plot_in}
 use Rattle.forest.specs.declared.lasting_view.LastingView.{LastingView}
-use Rattle.forest.specs.declared.lasting_view.Memory.{Memory}
+use Rattle.forest.specs.declared.lasting_view.PassMemory.{PassMemory}
 use Rattle.forest.specs.declared.lasting_view.NoteView.{NoteView}
 use Rattle.forest.specs.declared.lasting_view.NoteView.TheVariants.{MarkedOrDead, DeadBy, OutOfReach, DoneWith}
 use Rattle.forest.specs.declared.lasting_view.Polled.{Polled}
@@ -87,7 +87,7 @@ module _ (t : Lasting) (planting : PlantingView) (a b : Present) (x : Later t a 
     pub zeros : (w : Word) → IsZeroWord t q a w → IsZeroWord t q b w
 
   -- so it remembers well
-  pub names_kept : (q : ℕ) (m : Memory) → Spares q → RemembersNames t planting a q m → RemembersNames t planting b q m
+  pub names_kept : (q : ℕ) (m : PassMemory) → Spares q → RemembersNames t planting a q m → RemembersNames t planting b q m
   names_kept q m z y = record {
     dealt = λ r own d free. z.held r own (y.dealt r own d (untaken_before r free));
     later = λ r own d. z.free r own (y.later r own d);
@@ -98,7 +98,7 @@ module _ (t : Lasting) (planting : PlantingView) (a b : Present) (x : Later t a 
     zeros = each_kept _ _ z.zeros m.zeros y.zeros;
   }
 
-  pub remembers_kept : (q : ℕ) (rested : List Row) (m : Memory) → Spares q → b.tally.away q ≡ a.tally.away q → b.tally.count q ≡ a.tally.count q → (a.tally.away q ≡ false → b.last q ≡ a.last q) → RemembersWell t planting a q rested m → RemembersWell t planting b q rested m
+  pub remembers_kept : (q : ℕ) (rested : List Row) (m : PassMemory) → Spares q → b.tally.away q ≡ a.tally.away q → b.tally.count q ≡ a.tally.count q → (a.tally.away q ≡ false → b.last q ≡ a.last q) → RemembersWell t planting a q rested m → RemembersWell t planting b q rested m
   remembers_kept q rested m z away often rests y = record {
     away = y.away ∙ sym away;
     often = y.often ∙ sym often;
@@ -118,7 +118,7 @@ spared t planting a b x stays same words q = record {
 -- The seats
 
 module _ (t : Lasting) (planting : PlantingView) (a b : Present) where
-  pub remember_kept : (ok : ℕ → Type 0) → ((q : ℕ) (rested : List Row) (m : Memory) → ok q → RemembersWell t planting a q rested m → RemembersWell t planting b q rested m) → (rows : List Row) (owner : ℕ → ℕ) (id : ℕ) → ((q : ℕ) → owner q ≡ id → ok q) → (ps : List SeatedPass) (ms : List Memory) → Owns (plot_in t planting) rows owner id ps → RememberWell t planting a ps ms → RememberWell t planting b ps ms
+  pub remember_kept : (ok : ℕ → Type 0) → ((q : ℕ) (rested : List Row) (m : PassMemory) → ok q → RemembersWell t planting a q rested m → RemembersWell t planting b q rested m) → (rows : List Row) (owner : ℕ → ℕ) (id : ℕ) → ((q : ℕ) → owner q ≡ id → ok q) → (ps : List SeatedPass) (ms : List PassMemory) → Owns (plot_in t planting) rows owner id ps → RememberWell t planting a ps ms → RememberWell t planting b ps ms
   remember_kept ok f rows owner id is [] [] own y = tt
   remember_kept ok f rows owner id is [] (m ∷ ms) own y = y
   remember_kept ok f rows owner id is (p ∷ ps) [] own y = y

@@ -16,7 +16,7 @@ use Rattle.forest.specs.LastingMemory.{HasPolledSo, IsPollSo, Present, Remembers
 use Rattle.forest.specs.LastingNotes.{IsIn, memory_looked, memory_polled, waits_of}
 use Rattle.forest.specs.LastingRule.{LearnsWith, TableLasts}
 use Rattle.forest.specs.declared.lasting_view.LastingView.{LastingView}
-use Rattle.forest.specs.declared.lasting_view.Memory.{Memory}
+use Rattle.forest.specs.declared.lasting_view.PassMemory.{PassMemory}
 use Rattle.forest.specs.declared.lasting_view.Polled.{Polled}
 use Rattle.forest.specs.declared.view.SeatedPass.{SeatedPass}
 use Rattle.forest.proofs.LastingKept.{Later, StaysUnborn, names_kept, spared}
@@ -33,7 +33,7 @@ waits_even c =
 waits_odd : (c : ℕ) → waits_of (2 * c + 1) ≡ None
 waits_odd c = let odd : (2 * c + 1) % 2 ≡ 1 = omega arith in rw odd refl
 
-module _ (allows : Layout → History → ℕ → Type 0) (t : Lasting) (planting : PlantingView) (stays : StaysUnborn t.lay) (s : State ℕ LastingView) (kept : TableLasts allows t planting s) (id : ℕ) (v : LastingView) (fits : get_elem? s.views id ≡ some v) (p : SeatedPass) (m : Memory) (one : v.passes ≡ p ∷ []) (recalled : v.memories ≡ m ∷ []) (at : ℕ) (q : ℕ) where
+module _ (allows : Layout → History → ℕ → Type 0) (t : Lasting) (planting : PlantingView) (stays : StaysUnborn t.lay) (s : State ℕ LastingView) (kept : TableLasts allows t planting s) (id : ℕ) (v : LastingView) (fits : get_elem? s.views id ≡ some v) (p : SeatedPass) (m : PassMemory) (one : v.passes ≡ p ∷ []) (recalled : v.memories ≡ m ∷ []) (at : ℕ) (q : ℕ) where
   abbrev h : History
   h = history_of planting kept.rows
 
@@ -74,7 +74,7 @@ module _ (allows : Layout → History → ℕ → Type 0) (t : Lasting) (plantin
         (λ k d. spared t planting before there later stays refl (λ u i none. refl) k)
         (λ j d ps y. y))
 
-module _ (allows : Layout → History → ℕ → Type 0) (t : Lasting) (planting : PlantingView) (stays : StaysUnborn t.lay) (slots id : ℕ) (me : Me ℕ LastingView) (p : SeatedPass) (m : Memory) (one : me.0.passes ≡ p ∷ []) (recalled : me.0.memories ≡ m ∷ []) where
+module _ (allows : Layout → History → ℕ → Type 0) (t : Lasting) (planting : PlantingView) (stays : StaysUnborn t.lay) (slots id : ℕ) (me : Me ℕ LastingView) (p : SeatedPass) (m : PassMemory) (one : me.0.passes ≡ p ∷ []) (recalled : me.0.memories ≡ m ∷ []) where
   -- a first look at the word of the pass q
   pub lasting_looks : (q : ℕ) → q < t.lay.passes → Allows (TableLasts allows t planting) slots id me (rests_place t.table q) (λ n. n) (λ n w. LearnsWith allows (memory_looked m q n) me.0 w.0 × (w.1 ≡ me.1))
   lasting_looks q i s kept sized fits small = (

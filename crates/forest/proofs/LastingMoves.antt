@@ -18,7 +18,7 @@ use Rattle.forest.specs.TableRule.{Made, Owns, history_of, past_of, row, seated_
 use Rattle.forest.specs.LastingMemory.{AreHeldOrGone, IsGone, Present, RememberWell, RemembersWell, present}
 use Rattle.forest.specs.LastingRule.{MayStepOn, TableLasts, plot_in}
 use Rattle.forest.specs.declared.lasting_view.LastingView.{LastingView}
-use Rattle.forest.specs.declared.lasting_view.Memory.{Memory}
+use Rattle.forest.specs.declared.lasting_view.PassMemory.{PassMemory}
 use Rattle.forest.specs.declared.rule.CallStep.{CallStep}
 use Rattle.forest.specs.declared.rule.Plot.{Plot}
 use Rattle.forest.specs.declared.view.SeatedPass.{SeatedPass}
@@ -43,7 +43,7 @@ row_gone t planting now next r run same later stays held gone n taken = subst (�
     go (inr old) = ⊎_elim inl (λ g. inr (gone_kept t planting now next later stays n g)) (gone n old)
 
 module _ (allows : Layout → History → ℕ → Type 0) (t : Lasting) (planting : PlantingView) (stays : StaysUnborn t.lay) (maps : (h : History) → IsRun allows t.lay h → IsMapRun t.lay h) (slots id : ℕ) (me : Me ℕ LastingView) (said : CallStep) (at : ℕ) (f told : ℕ → ℕ) (is : at ≡ table_place t said.step.word) (after : (n : ℕ) → f n ≡ word_after said.step.access n) (tells : (n : ℕ) → IsTold said.step.access n (told n)) where
-  pub lasting_moves : (p : SeatedPass) (m : Memory) → me.0.passes ≡ p ∷ [] → me.0.memories ≡ m ∷ [] → MayStepOn allows said p m → Allows (TableLasts allows t planting) slots id me at f (λ n w. Made allows said me.0.passes (told n) w.0.passes × (w.0.memories ≡ me.0.memories) × (w.1 ≡ me.1))
+  pub lasting_moves : (p : SeatedPass) (m : PassMemory) → me.0.passes ≡ p ∷ [] → me.0.memories ≡ m ∷ [] → MayStepOn allows said p m → Allows (TableLasts allows t planting) slots id me at f (λ n w. Made allows said me.0.passes (told n) w.0.passes × (w.0.memories ≡ me.0.memories) × (w.1 ≡ me.1))
   lasting_moves p m one recalled may s kept sized seat fits =
       let now : Present = present s.words (history_of planting kept.rows) kept.last kept.held kept.tally in
       let own : Owns (plot_in t planting) kept.rows kept.owner id (p ∷ []) = subst (λ ps. Owns (plot_in t planting) kept.rows kept.owner id ps) one (kept.passes id me.0 seat) in
@@ -76,7 +76,7 @@ module _ (allows : Layout → History → ℕ → Type 0) (t : Lasting) (plantin
       let later : Later t now next = row_later t now r words window in
       let left : (w : Word) → IsWord t.table w → kept.held (record_of w) ≡ None → slice_index words (place t.table w) ≡ slice_index s.words (place t.table w) =
       λ w i none. get_or-set_other s.words at (place t.table w) (f (slice_index s.words at)) 0 (λ q. empty_apart t kept.window.lasting kept.held kept.window.names w r.word i none (lawful_row t.lay h r sound.lawful).word made.held (sym (q ∙ is))) in
-      let well_now : (q : ℕ) (rested : List Row) (n : Memory) → RemembersWell t planting now q rested n → RemembersWell t planting next q rested n =
+      let well_now : (q : ℕ) (rested : List Row) (n : PassMemory) → RemembersWell t planting now q rested n → RemembersWell t planting next q rested n =
       λ q rested n y. remembers_kept t planting now next later stays q rested n (spared t planting now next later stays refl left q) refl refl (λ z. refl) y in
       let mine : SeatedPass = seated_pass p.number.0 p.layout p.planting p.rested (row p.number.0 said (past_of p others) ∷ (others ++ p.known)) in
       let w : LastingView = record { passes = mine ∷ []; memories = me.0.memories } in

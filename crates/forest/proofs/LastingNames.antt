@@ -24,7 +24,7 @@ use Rattle.forest.specs.TableRule.{Owns, history_of}
 use Rattle.forest.specs.LastingMemory.{IsDealt}
 use Rattle.forest.specs.LastingNames.{past_nodes, past_scxs, scx_rows}
 use Rattle.forest.specs.LastingRule.{plot_in}
-use Rattle.forest.specs.declared.lasting_view.Memory.{Memory}
+use Rattle.forest.specs.declared.lasting_view.PassMemory.{PassMemory}
 use Rattle.forest.specs.declared.view.SeatedPass.{SeatedPass}
 use Rattle.forest.proofs.Moves.{owns_more}
 
@@ -64,7 +64,7 @@ module _ (allows : Layout → History → ℕ → Type 0) (t : Lasting) (plantin
 
   -- The pass may give a slot the name x next: nobody has taken that, and of the pass's own that it
   -- has dealt by then each other one that is untaken was dealt before.
-  pub record IsReady (x : Record) (old new : Memory) (rows : List Row) : Type 0 where
+  pub record IsReady (x : Record) (old new : PassMemory) (rows : List Row) : Type 0 where
     pub goes : GoesOn rows
     pub run : IsMapRun t.lay (history_of planting rows)
     pub over : AreFinished t.lay o 0 (history_of planting rows)

@@ -17,7 +17,7 @@ use Rattle.forest.specs.LastingMemory.{IsGoneRecord, IsNoteSo, IsPollSo, Present
 use Rattle.forest.specs.LastingNotes.{HasRestedSince, IsBefore, IsIn, further, further_all, memory_noted, rested_poll}
 use Rattle.forest.specs.LastingRule.{LearnsWith, TableLasts}
 use Rattle.forest.specs.declared.lasting_view.LastingView.{LastingView}
-use Rattle.forest.specs.declared.lasting_view.Memory.{Memory}
+use Rattle.forest.specs.declared.lasting_view.PassMemory.{PassMemory}
 use Rattle.forest.specs.declared.lasting_view.Noted.{Noted}
 use Rattle.forest.specs.declared.lasting_view.NoteView.{NoteView}
 use Rattle.forest.specs.declared.lasting_view.NoteView.TheVariants.{MarkedOrDead, DeadBy, OutOfReach, DoneWith}
@@ -66,11 +66,11 @@ module _ (lay : Layout) (planting : PlantingView) (known : Periods lay) (o : ℕ
     notes_go_on notes (c ∷ cs) so chosen = (note_goes_on (record_at c.name) c.note chosen.0.1 (in_each (λ n. IsNoteSo lay planting o a (record_at n.name) n.note) c notes chosen.0.0 so), notes_go_on notes cs so chosen.1)
 
 -- a pass that has polled all others has rested itself, and so have they
-rested_since : (t : Lasting) (planting : PlantingView) (a : Present) (m : Memory) (snapshot : List Row) → Each (IsPollSo t.lay planting a) m.polls → (o : ℕ) → Extends (a.last o) (history_of planting snapshot) → ((q : ℕ) → q < t.lay.passes → q ≢ o → (since : List Row) × IsIn (rested_poll q since) m.polls × Extends (history_of planting since) (history_of planting snapshot)) → (q : ℕ) → q < t.lay.passes → Dec (q ≡ o) → Extends (a.last q) (history_of planting snapshot)
+rested_since : (t : Lasting) (planting : PlantingView) (a : Present) (m : PassMemory) (snapshot : List Row) → Each (IsPollSo t.lay planting a) m.polls → (o : ℕ) → Extends (a.last o) (history_of planting snapshot) → ((q : ℕ) → q < t.lay.passes → q ≢ o → (since : List Row) × IsIn (rested_poll q since) m.polls × Extends (history_of planting since) (history_of planting snapshot)) → (q : ℕ) → q < t.lay.passes → Dec (q ≡ o) → Extends (a.last q) (history_of planting snapshot)
 rested_since t planting a m snapshot polls o own_rest others q i (yes e) = subst (λ k. Extends (a.last k) (history_of planting snapshot)) (sym e) own_rest
 rested_since t planting a m snapshot polls o own_rest others q i (no d) = let poll = others q i d in ends_trans (a.last q) (history_of planting poll.0) (history_of planting snapshot) (in_each (IsPollSo t.lay planting a) (rested_poll q poll.0) m.polls poll.1 polls).1 poll.2
 
-module _ (allows : Layout → History → ℕ → Type 0) (t : Lasting) (planting : PlantingView) (stays : StaysUnborn t.lay) (known : Periods t.lay) (slots id : ℕ) (me : Me ℕ LastingView) (p : SeatedPass) (m : Memory) (one : me.0.passes ≡ p ∷ []) (recalled : me.0.memories ≡ m ∷ []) where
+module _ (allows : Layout → History → ℕ → Type 0) (t : Lasting) (planting : PlantingView) (stays : StaysUnborn t.lay) (known : Periods t.lay) (slots id : ℕ) (me : Me ℕ LastingView) (p : SeatedPass) (m : PassMemory) (one : me.0.passes ≡ p ∷ []) (recalled : me.0.memories ≡ m ∷ []) where
   -- all have rested since the snapshot: these notes go on, at a load of any word
   pub lasting_notes : (at : ℕ) (snapshot : List Row) (chosen : List Noted) → p.number.0 < t.lay.passes → HasRestedSince t.lay p m snapshot → Each (λ n. IsIn n m.notes × IsBefore p.planting (history_of p.planting snapshot) n.note) chosen → Allows (TableLasts allows t planting) slots id me at (λ n. n) (λ n w. LearnsWith allows (memory_noted m chosen) me.0 w.0 × (w.1 ≡ me.1))
   lasting_notes at snapshot chosen is_pass all picked s kept sized fits small =

@@ -19,7 +19,7 @@ use Rattle.forest.specs.LastingMemory.{AreHeldOrGone, Present, RememberWell, Rem
 use Rattle.forest.specs.LastingNotes.{memory_away, memory_rested}
 use Rattle.forest.specs.LastingRule.{LearnsAtRest, LearnsWith, TableLasts, plot_in}
 use Rattle.forest.specs.declared.lasting_view.LastingView.{LastingView}
-use Rattle.forest.specs.declared.lasting_view.Memory.{Memory}
+use Rattle.forest.specs.declared.lasting_view.PassMemory.{PassMemory}
 use Rattle.forest.specs.declared.view.SeatedPass.{SeatedPass}
 use Rattle.forest.proofs.LastingKept.{Later, StaysUnborn, gone_kept, names_kept, remember_kept, remembers_kept, spared, views_kept}
 use Rattle.forest.proofs.LastingSeats.{apart, at_rest, aware, learnt, learnt_at_rest, now, over, owns_aware, well}
@@ -40,7 +40,7 @@ moves_now t h last o rested = record { rested = rested; within = λ p i. within 
 pub all_gone : (t : Lasting) (planting : PlantingView) (a b : Present) → Later t a b → StaysUnborn t.lay → b.run ≡ a.run → b.held ≡ a.held → AreHeldOrGone t a → AreHeldOrGone t b
 all_gone t planting a b later stays run same gone n taken = ⊎_elim (λ is. inl (subst (λ (k : Held). IsHeld t k (the_node n)) (sym same) is)) (λ g. inr (gone_kept t planting a b later stays n g)) (gone n (subst (λ k. IsTakenNode k n) run taken))
 
-module _ (allows : Layout → History → ℕ → Type 0) (t : Lasting) (planting : PlantingView) (stays : StaysUnborn t.lay) (slots id : ℕ) (me : Me ℕ LastingView) (p : SeatedPass) (m : Memory) (one : me.0.passes ≡ p ∷ []) (recalled : me.0.memories ≡ m ∷ []) (is_pass : p.number.0 < t.lay.passes) (finished : AreFinished p.layout p.number.0 0 (past_of p [])) where
+module _ (allows : Layout → History → ℕ → Type 0) (t : Lasting) (planting : PlantingView) (stays : StaysUnborn t.lay) (slots id : ℕ) (me : Me ℕ LastingView) (p : SeatedPass) (m : PassMemory) (one : me.0.passes ≡ p ∷ []) (recalled : me.0.memories ≡ m ∷ []) (is_pass : p.number.0 < t.lay.passes) (finished : AreFinished p.layout p.number.0 0 (past_of p [])) where
   -- a pass that is between two calls stores that it rests, or that it is there again
   pub lasting_rests : Allows (TableLasts allows t planting) slots id me (rests_place t.table p.number.0) (λ _. 2 * suc m.often) (λ n w. LearnsAtRest allows (memory_rested m) me.0 w.0 × (w.1 ≡ me.1))
   lasting_rests s kept sized seat fits =
@@ -60,7 +60,7 @@ module _ (allows : Layout → History → ℕ → Type 0) (t : Lasting) (plantin
       let left : (u : Word) → IsWord t.table u → kept.held (record_of u) ≡ None → slice_index words (place t.table u) ≡ slice_index s.words (place t.table u) =
       λ u i none. get_or-set_other s.words at (place t.table u) (2 * suc m.often) 0 (λ q. let inside = place_inside t.table u i in omega (arith, q, inside)) in
       let names : RemembersNames t planting next o m = names_kept t planting before next later stays o m (spared t planting before next later stays refl left o) recalls.names in
-      let others : (q : ℕ) (rested : List Row) (n : Memory) → q ≢ o → RemembersWell t planting before q rested n → RemembersWell t planting next q rested n =
+      let others : (q : ℕ) (rested : List Row) (n : PassMemory) → q ≢ o → RemembersWell t planting before q rested n → RemembersWell t planting next q rested n =
       λ q rested n d y. remembers_kept t planting before next later stays q rested n (spared t planting before next later stays refl left q) (rw (ne_eqb q o d) refl) (rw (ne_eqb q o d) refl) (λ z. rest_other kept.last o h q d) y in (
         w,
         keeps,
@@ -111,7 +111,7 @@ module _ (allows : Layout → History → ℕ → Type 0) (t : Lasting) (plantin
       let left : (u : Word) → IsWord t.table u → kept.held (record_of u) ≡ None → slice_index words (place t.table u) ≡ slice_index s.words (place t.table u) =
       λ u i none. get_or-set_other s.words at (place t.table u) (2 * m.often + 1) 0 (λ q. let inside = place_inside t.table u i in omega (arith, q, inside)) in
       let names : RemembersNames t planting next o m = names_kept t planting before next later stays o m (spared t planting before next later stays refl left o) recalls.names in
-      let others : (q : ℕ) (rested : List Row) (n : Memory) → q ≢ o → RemembersWell t planting before q rested n → RemembersWell t planting next q rested n =
+      let others : (q : ℕ) (rested : List Row) (n : PassMemory) → q ≢ o → RemembersWell t planting before q rested n → RemembersWell t planting next q rested n =
       λ q rested n d y. remembers_kept t planting before next later stays q rested n (spared t planting before next later stays refl left q) (rw (ne_eqb q o d) refl) refl (λ z. refl) y in (
         w,
         keeps,

@@ -17,7 +17,7 @@ use Rattle.forest.specs.TableRule.{ByOthers, Owns, history_of, past_of, seated_p
 use Rattle.forest.specs.LastingMemory.{Present, RememberWell, RemembersWell, present}
 use Rattle.forest.specs.LastingRule.{HasLearnt, TableLasts, plot_in}
 use Rattle.forest.specs.declared.lasting_view.LastingView.{LastingView}
-use Rattle.forest.specs.declared.lasting_view.Memory.{Memory}
+use Rattle.forest.specs.declared.lasting_view.PassMemory.{PassMemory}
 use Rattle.forest.specs.declared.rule.Plot.{Plot}
 use Rattle.forest.specs.declared.view.SeatedPass.{SeatedPass}
 
@@ -42,7 +42,7 @@ pub share_behind : (lay : Layout) (planting : PlantingView) (o : ℕ) (left : Re
 share_behind lay planting o left n s [] known is_pass l by x = x
 share_behind lay planting o left n s (r ∷ rs) known is_pass l by x = share_by_others lay (history_of planting (rs ++ known)) r o left n s l is_pass by.0 (share_behind lay planting o left n s rs known is_pass (lawful_tail lay (history_of planting (rs ++ known)) r l) by.1 x)
 
-module _ (allows : Layout → History → ℕ → Type 0) (t : Lasting) (planting : PlantingView) (s : State ℕ LastingView) (kept : TableLasts allows t planting s) (id : ℕ) (v : LastingView) (fits : get_elem? s.views id ≡ some v) (p : SeatedPass) (m : Memory) (one : v.passes ≡ p ∷ []) (recalled : v.memories ≡ m ∷ []) where
+module _ (allows : Layout → History → ℕ → Type 0) (t : Lasting) (planting : PlantingView) (s : State ℕ LastingView) (kept : TableLasts allows t planting s) (id : ℕ) (v : LastingView) (fits : get_elem? s.views id ≡ some v) (p : SeatedPass) (m : PassMemory) (one : v.passes ≡ p ∷ []) (recalled : v.memories ≡ m ∷ []) where
   -- where the table is
   abbrev pub now : Present
   now = present s.words (history_of planting kept.rows) kept.last kept.held kept.tally

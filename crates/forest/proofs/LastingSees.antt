@@ -21,7 +21,7 @@ use Rattle.forest.specs.LastingMemory.{IsGoneRecord, IsHeldName, Present, Rememb
 use Rattle.forest.specs.LastingNotes.{IsIn, IsUnused, memory_marked, memory_unused, noted_as, memory_left}
 use Rattle.forest.specs.LastingRule.{LearnsWith, TableLasts, LoadsWord}
 use Rattle.forest.specs.declared.lasting_view.LastingView.{LastingView}
-use Rattle.forest.specs.declared.lasting_view.Memory.{Memory}
+use Rattle.forest.specs.declared.lasting_view.PassMemory.{PassMemory}
 use Rattle.forest.specs.declared.lasting_view.NoteView.TheVariants.{MarkedOrDead}
 use Rattle.forest.specs.declared.lasting_view.RecordNo.{RecordNo}
 use Rattle.forest.specs.declared.lasting_view.RecordNo.TheVariants.{Node}
@@ -33,7 +33,7 @@ use Rattle.forest.proofs.LastingSeats.{aware, behind_known, learnt, now, own, we
 use Rattle.forest.proofs.LastingSlots.{taken_since}
 
 -- the planting of the seat's pass
-planted : (allows : Layout → History → ℕ → Type 0) (t : Lasting) (planting : PlantingView) (s : State ℕ LastingView) (kept : TableLasts allows t planting s) (id : ℕ) (v : LastingView) (fits : get_elem? s.views id ≡ some v) (p : SeatedPass) (m : Memory) (one : v.passes ≡ p ∷ []) (recalled : v.memories ≡ m ∷ []) (q : SeatedPass) → v.passes ≡ q ∷ [] → planting ≡ q.planting
+planted : (allows : Layout → History → ℕ → Type 0) (t : Lasting) (planting : PlantingView) (s : State ℕ LastingView) (kept : TableLasts allows t planting s) (id : ℕ) (v : LastingView) (fits : get_elem? s.views id ≡ some v) (p : SeatedPass) (m : PassMemory) (one : v.passes ≡ p ∷ []) (recalled : v.memories ≡ m ∷ []) (q : SeatedPass) → v.passes ≡ q ∷ [] → planting ≡ q.planting
 planted allows t planting s kept id v fits p m one recalled q is = sym (ap (λ (g : Plot). g.planting) (own allows t planting s kept id v fits q m is recalled).1)
 
 -- what was of no use is out of reach, and gone
@@ -41,7 +41,7 @@ unused_out : (lay : Layout) (h : History) (last : ℕ → History) (o : ℕ) (x 
 unused_out lay h last o (the_node n) i x = (unborn_out lay h last o n i x, inr (inr (o, i, x)))
 unused_out lay h last o (the_scx s) i x = (unnamed_out lay h last o s i x, tt)
 
-module _ (allows : Layout → History → ℕ → Type 0) (t : Lasting) (planting : PlantingView) (stays : StaysUnborn t.lay) (slots id : ℕ) (me : Me ℕ LastingView) (p : SeatedPass) (m : Memory) (one : me.0.passes ≡ p ∷ []) (recalled : me.0.memories ≡ m ∷ []) (is_pass : p.number.0 < t.lay.passes) where
+module _ (allows : Layout → History → ℕ → Type 0) (t : Lasting) (planting : PlantingView) (stays : StaysUnborn t.lay) (slots id : ℕ) (me : Me ℕ LastingView) (p : SeatedPass) (m : PassMemory) (one : me.0.passes ≡ p ∷ []) (recalled : me.0.memories ≡ m ∷ []) (is_pass : p.number.0 < t.lay.passes) where
   -- a look at the mark of a node that an own slot holds
   pub lasting_marks : (n : NodeNo) → IsIn (Node n) m.holds → IsTakenNode (past_of p []) n.0 → Allows (TableLasts allows t planting) slots id me (table_place t (node n.0 Marked)) (λ v. v) (λ v w. LearnsWith allows (memory_marked m (Node n) v) me.0 w.0 × (w.1 ≡ me.1))
   lasting_marks n holds taken s kept sized fits small = go (ℕ_discrete found 0)
@@ -80,7 +80,7 @@ module _ (allows : Layout → History → ℕ → Type 0) (t : Lasting) (plantin
       )
       go (no d) =
           let names = recalls.names in
-          let after : Memory = record m { notes = noted_as (Node n) (MarkedOrDead kept.rows) ∷ m.notes } in (
+          let after : PassMemory = record m { notes = noted_as (Node n) (MarkedOrDead kept.rows) ∷ m.notes } in (
             record { passes = aware allows t planting s kept id me.0 fits p m one recalled ∷ []; memories = after ∷ [] },
             keeps,
             tt,

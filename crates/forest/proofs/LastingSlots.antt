@@ -26,7 +26,7 @@ use Rattle.forest.specs.LastingNotes.{IsIn, noted_as}
 use Rattle.forest.specs.LastingRule.{LearnsWith, TableLasts}
 use Rattle.forest.specs.LastingSlots.{IsLastDealt, IsLeft, WasTaken, memory_cleared, memory_given_back, memory_let_go, memory_without, slot_number, without}
 use Rattle.forest.specs.declared.lasting_view.LastingView.{LastingView}
-use Rattle.forest.specs.declared.lasting_view.Memory.{Memory}
+use Rattle.forest.specs.declared.lasting_view.PassMemory.{PassMemory}
 use Rattle.forest.specs.declared.lasting_view.NoteView.TheVariants.{OutOfReach}
 use Rattle.forest.specs.declared.lasting_view.RecordNo.{RecordNo}
 use Rattle.forest.specs.declared.lasting_view.RecordNo.TheVariants.{Node, Scx}
@@ -71,11 +71,11 @@ each_without P Q x f (n ∷ ns) y = go (same_record (record_at n) x) refl (each_
     go false e z = (f n (λ is. true≢false (sym (same_self x) ∙ ap (λ k. same_record k x) (sym is) ∙ e)) y.0, z)
 
 -- as many are dealt as before
-same_dealt : (t : Lasting) (m : Memory) (name : RecordNo) (y : Record) → IsDealt (memory_let_go t m name) y → IsDealt m y
+same_dealt : (t : Lasting) (m : PassMemory) (name : RecordNo) (y : Record) → IsDealt (memory_let_go t m name) y → IsDealt m y
 same_dealt t m name (the_node n) d = d
 same_dealt t m name (the_scx s) d = d
 
-dealt_same : (t : Lasting) (m : Memory) (name : RecordNo) (y : Record) → IsDealt m y → IsDealt (memory_let_go t m name) y
+dealt_same : (t : Lasting) (m : PassMemory) (name : RecordNo) (y : Record) → IsDealt m y → IsDealt (memory_let_go t m name) y
 dealt_same t m name (the_node n) d = d
 dealt_same t m name (the_scx s) d = d
 
@@ -106,7 +106,7 @@ module _ (t : Lasting) (held : Held) (x : Record) (is : IsHeld t held x) where
 
 -- The slot of the name x, which is held, holds nothing from now on; names up to these two are
 -- dealt.
-module _ (allows : Layout → History → ℕ → Type 0) (t : Lasting) (planting : PlantingView) (stays : StaysUnborn t.lay) (s : State ℕ LastingView) (kept : TableLasts allows t planting s) (id : ℕ) (v : LastingView) (fits : get_elem? s.views id ≡ some v) (p : SeatedPass) (m : Memory) (one : v.passes ≡ p ∷ []) (recalled : v.memories ≡ m ∷ []) (at : ℕ) (name : RecordNo) (nodes_to scx_to : ℕ)
+module _ (allows : Layout → History → ℕ → Type 0) (t : Lasting) (planting : PlantingView) (stays : StaysUnborn t.lay) (s : State ℕ LastingView) (kept : TableLasts allows t planting s) (id : ℕ) (v : LastingView) (fits : get_elem? s.views id ≡ some v) (p : SeatedPass) (m : PassMemory) (one : v.passes ≡ p ∷ []) (recalled : v.memories ≡ m ∷ []) (at : ℕ) (name : RecordNo) (nodes_to scx_to : ℕ)
     (mine : IsHeldName t p.number.0 (now allows t planting s kept id v fits p m one recalled) name)
     (reason : IsUntaken t.lay (history_of planting kept.rows) (record_at name) ⊎ IsOutOfReach t.lay (history_of planting kept.rows) kept.last (record_at name))
     (gone_then : (n : ℕ) → IsTakenNode (history_of planting kept.rows) n → the_node n ≡ record_at name → IsGone t.lay (history_of planting kept.rows) kept.last n)
@@ -181,7 +181,7 @@ module _ (allows : Layout → History → ℕ → Type 0) (t : Lasting) (plantin
       record { away = recalls.away; often = recalls.often; rested = recalls.rested; names = names }
       spares (λ j d ps y. y))
 
-module _ (allows : Layout → History → ℕ → Type 0) (t : Lasting) (planting : PlantingView) (stays : StaysUnborn t.lay) (slots id : ℕ) (me : Me ℕ LastingView) (p : SeatedPass) (m : Memory) (one : me.0.passes ≡ p ∷ []) (recalled : me.0.memories ≡ m ∷ []) where
+module _ (allows : Layout → History → ℕ → Type 0) (t : Lasting) (planting : PlantingView) (stays : StaysUnborn t.lay) (slots id : ℕ) (me : Me ℕ LastingView) (p : SeatedPass) (m : PassMemory) (one : me.0.passes ≡ p ∷ []) (recalled : me.0.memories ≡ m ∷ []) where
   -- the slot of a name that is out of reach holds nothing from now on, at a load of any word
   pub lasting_lets_go : (at : ℕ) (name : RecordNo) → IsIn name m.holds → IsIn (noted_as name OutOfReach) m.notes → WasTaken (past_of p []) (record_at name) → Allows (TableLasts allows t planting) slots id me at (λ n. n) (λ n w. LearnsWith allows (λ rows. memory_let_go t m name) me.0 w.0 × (w.1 ≡ me.1))
   lasting_lets_go at name held_name noted_so taken s kept sized fits small =

@@ -23,7 +23,7 @@ use Rattle.forest.specs.LastingMemory.{AreHeldOrGone, IsDealt, IsEmptySlot, IsGo
 use Rattle.forest.specs.LastingNames.{MayTake, memory_with, memory_with_node, memory_with_scx, node_ahead, past_nodes, past_scxs, scx_ahead, without_words}
 use Rattle.forest.specs.LastingRule.{GoesOnWith, TableLasts, plot_in, LearnsAtRest}
 use Rattle.forest.specs.declared.lasting_view.LastingView.{LastingView}
-use Rattle.forest.specs.declared.lasting_view.Memory.{Memory}
+use Rattle.forest.specs.declared.lasting_view.PassMemory.{PassMemory}
 use Rattle.forest.specs.declared.lasting_view.RecordNo.{RecordNo}
 use Rattle.forest.specs.declared.rule.Plot.{Plot}
 use Rattle.forest.specs.declared.view.SeatedPass.{SeatedPass}
@@ -60,7 +60,7 @@ module _ (t : Lasting) (held : Held) (slot x : Record) (none : held slot ≡ Non
 
 -- It may give the slot this name, once the run has gone on to these rows; then it remembers so
 -- much.
-module _ (allows : Layout → History → ℕ → Type 0) (t : Lasting) (planting : PlantingView) (stays : StaysUnborn t.lay) (s : State ℕ LastingView) (kept : TableLasts allows t planting s) (id : ℕ) (v : LastingView) (fits : get_elem? s.views id ≡ some v) (p : SeatedPass) (m : Memory) (one : v.passes ≡ p ∷ []) (recalled : v.memories ≡ m ∷ []) (at : ℕ) (left : Remaining) (name slot : RecordNo) (nodes_to scx_to : ℕ) (may : MayTake t p m left name slot) where
+module _ (allows : Layout → History → ℕ → Type 0) (t : Lasting) (planting : PlantingView) (stays : StaysUnborn t.lay) (s : State ℕ LastingView) (kept : TableLasts allows t planting s) (id : ℕ) (v : LastingView) (fits : get_elem? s.views id ≡ some v) (p : SeatedPass) (m : PassMemory) (one : v.passes ≡ p ∷ []) (recalled : v.memories ≡ m ∷ []) (at : ℕ) (left : Remaining) (name slot : RecordNo) (nodes_to scx_to : ℕ) (may : MayTake t p m left name slot) where
   abbrev o : ℕ
   o = p.number.0
 
@@ -92,7 +92,7 @@ module _ (allows : Layout → History → ℕ → Type 0) (t : Lasting) (plantin
     abbrev last : ℕ → History
     last = with_rest kept.last p.number.0 (history_of planting rows)
 
-    abbrev after : Memory
+    abbrev after : PassMemory
     after = memory_with m name slot nodes_to scx_to
 
     abbrev held : Held
@@ -167,7 +167,7 @@ module _ (allows : Layout → History → ℕ → Type 0) (t : Lasting) (plantin
         record { away = recalls.away; often = recalls.often; rested = λ z. rest_same kept.last o k; names = names }
         spares ready.goes.grows)
 
-module _ (allows : Layout → History → ℕ → Type 0) (t : Lasting) (planting : PlantingView) (stays : StaysUnborn t.lay) (slots id : ℕ) (me : Me ℕ LastingView) (p : SeatedPass) (m : Memory) (one : me.0.passes ≡ p ∷ []) (recalled : me.0.memories ≡ m ∷ []) (at count : ℕ) (left : Remaining) (slot : RecordNo) where
+module _ (allows : Layout → History → ℕ → Type 0) (t : Lasting) (planting : PlantingView) (stays : StaysUnborn t.lay) (slots id : ℕ) (me : Me ℕ LastingView) (p : SeatedPass) (m : PassMemory) (one : me.0.passes ≡ p ∷ []) (recalled : me.0.memories ≡ m ∷ []) (at count : ℕ) (left : Remaining) (slot : RecordNo) where
   -- the next name of a node but so many, at a load of any word
   pub lasting_nodes : MayTake t p m left (node_ahead m count) slot → left.next_node ≡ m.nodes_to → Allows (TableLasts allows t planting) slots id me at (λ n. n) (λ n w. GoesOnWith allows (past_nodes p.number.0 m.nodes_to count) (memory_with_node m count slot) me.0 w.0 × (w.1 ≡ me.1))
   lasting_nodes may all s kept sized fits small = (
@@ -340,7 +340,7 @@ module _ (allows : Layout → History → ℕ → Type 0) (t : Lasting) (plantin
       }
 
 -- The name behind those that are dealt, of which some may be left, with none passed over.
-module _ (allows : Layout → History → ℕ → Type 0) (t : Lasting) (planting : PlantingView) (stays : StaysUnborn t.lay) (slots id : ℕ) (me : Me ℕ LastingView) (p : SeatedPass) (m : Memory) (one : me.0.passes ≡ p ∷ []) (recalled : me.0.memories ≡ m ∷ []) (at : ℕ) (left : Remaining) (slot : RecordNo) where
+module _ (allows : Layout → History → ℕ → Type 0) (t : Lasting) (planting : PlantingView) (stays : StaysUnborn t.lay) (slots id : ℕ) (me : Me ℕ LastingView) (p : SeatedPass) (m : PassMemory) (one : me.0.passes ≡ p ∷ []) (recalled : me.0.memories ≡ m ∷ []) (at : ℕ) (left : Remaining) (slot : RecordNo) where
   next_taken : (name : RecordNo) (nodes_to scx_to : ℕ) → MayTake t p m left name slot → IsLeft left (record_at name)
       → ((y : Record) → IsDealt (memory_with m name slot nodes_to scx_to) y → (y ≡ record_at name) ⊎ IsDealt m y)
       → ((y : Record) → ¬ IsDealt (memory_with m name slot nodes_to scx_to) y → ¬ IsDealt m y)

@@ -11,7 +11,7 @@ use Rattle.slots.specs.Held.{Held, IsHeld}
 use Rattle.slots.specs.Lasting.{IsOwnName, IsOwnRecord, IsUntaken, Lasting}
 use Rattle.forest.specs.Passes.{Each}
 use Rattle.forest.specs.TableRule.{history_of}
-use Rattle.forest.specs.declared.lasting_view.Memory.{Memory}
+use Rattle.forest.specs.declared.lasting_view.PassMemory.{PassMemory}
 use Rattle.forest.specs.declared.lasting_view.NoteView.{NoteView}
 use Rattle.forest.specs.declared.lasting_view.NoteView.TheVariants.{MarkedOrDead, DeadBy, OutOfReach, DoneWith}
 use Rattle.forest.specs.declared.lasting_view.Polled.{Polled}
@@ -88,12 +88,12 @@ pub record IsZeroWord (t : Lasting) (o : ℕ) (now : Present) (w : Word) : Type 
   pub zero : slice_index now.words (place t.table w) ≡ 0
 
 -- the name is one of those that the pass has dealt itself, or passed over
-abbrev pub IsDealt : Memory → Record → Type 0
+abbrev pub IsDealt : PassMemory → Record → Type 0
 IsDealt m (the_node n) = n < m.nodes_to
 IsDealt m (the_scx s) = s < m.scx_to
 
 -- what the pass remembers of names, of slots and of others is so
-pub record RemembersNames (t : Lasting) (planting : PlantingView) (now : Present) (o : ℕ) (m : Memory) : Type 0 where
+pub record RemembersNames (t : Lasting) (planting : PlantingView) (now : Present) (o : ℕ) (m : PassMemory) : Type 0 where
   -- its names that are dealt and untaken are held, and none is that is not dealt
   pub dealt : (x : Record) → IsOwnRecord t.lay o x → IsDealt m x → IsUntaken t.lay now.run x → IsHeld t now.held x
   pub later : (x : Record) → IsOwnRecord t.lay o x → ¬ IsDealt m x → ¬ IsHeld t now.held x
@@ -104,7 +104,7 @@ pub record RemembersNames (t : Lasting) (planting : PlantingView) (now : Present
   pub zeros : Each (IsZeroWord t o now) m.zeros
 
 -- what the pass remembers is so, if it has rested last after these rows
-pub record RemembersWell (t : Lasting) (planting : PlantingView) (now : Present) (o : ℕ) (rows : List Row) (m : Memory) : Type 0 where
+pub record RemembersWell (t : Lasting) (planting : PlantingView) (now : Present) (o : ℕ) (rows : List Row) (m : PassMemory) : Type 0 where
   pub away : m.away ≡ now.tally.away o
   pub often : m.often ≡ now.tally.count o
   -- it has, while it is there
@@ -112,7 +112,7 @@ pub record RemembersWell (t : Lasting) (planting : PlantingView) (now : Present)
   pub names : RemembersNames t planting now o m
 
 -- so it is with each of these passes, by what it remembers, in the same order
-abbrev pub RememberWell : Lasting → PlantingView → Present → List SeatedPass → List Memory → Type 0
+abbrev pub RememberWell : Lasting → PlantingView → Present → List SeatedPass → List PassMemory → Type 0
 RememberWell t planting now [] [] = Unit {0}
 RememberWell t planting now [] (m ∷ ms) = ⊥
 RememberWell t planting now (p ∷ ps) [] = ⊥

@@ -13,7 +13,7 @@ use Rattle.forest.specs.TableRule.{history_of, past_of}
 use Rattle.forest.specs.LastingMemory.{record_at}
 use Rattle.forest.specs.LastingNotes.{IsIn}
 use Rattle.forest.specs.LastingSlots.{without}
-use Rattle.forest.specs.declared.lasting_view.Memory.{Memory}
+use Rattle.forest.specs.declared.lasting_view.PassMemory.{PassMemory}
 use Rattle.forest.specs.declared.lasting_view.RecordNo.{RecordNo}
 use Rattle.forest.specs.declared.lasting_view.RecordNo.TheVariants.{Node, Scx}
 use Rattle.forest.specs.declared.view.SeatedPass.{SeatedPass}
@@ -41,15 +41,15 @@ without_words x [] = []
 without_words x (w ∷ ws) = if same_record (record_of w) x then without_words x ws else w ∷ without_words x ws
 
 -- the name of a node that is so many behind those that are dealt
-abbrev pub node_ahead : Memory → ℕ → RecordNo
+abbrev pub node_ahead : PassMemory → ℕ → RecordNo
 node_ahead m count = Node record { 0 = m.nodes_to + count }
 
 -- and of an SCX-record
-abbrev pub scx_ahead : Memory → ℕ → RecordNo
+abbrev pub scx_ahead : PassMemory → ℕ → RecordNo
 scx_ahead m count = Scx record { 0 = m.scx_to + count }
 
 -- what is remembered once the slot holds the name, and names up to these two are dealt
-abbrev pub memory_with : Memory → (name slot : RecordNo) → (nodes_to scx_to : ℕ) → Memory
+abbrev pub memory_with : PassMemory → (name slot : RecordNo) → (nodes_to scx_to : ℕ) → PassMemory
 memory_with m name slot nodes_to scx_to = record m {
   nodes_to = nodes_to;
   scx_to = scx_to;
@@ -59,15 +59,15 @@ memory_with m name slot nodes_to scx_to = record m {
 }
 
 -- so it is once so many names of nodes are passed over, and the next is held; and of SCX-records
-abbrev pub memory_with_node : Memory → (count : ℕ) → RecordNo → Memory
+abbrev pub memory_with_node : PassMemory → (count : ℕ) → RecordNo → PassMemory
 memory_with_node m count slot = memory_with m (node_ahead m count) slot (m.nodes_to + suc count) m.scx_to
 
-abbrev pub memory_with_scx : Memory → (count : ℕ) → RecordNo → Memory
+abbrev pub memory_with_scx : PassMemory → (count : ℕ) → RecordNo → PassMemory
 memory_with_scx m count slot = memory_with m (scx_ahead m count) slot m.nodes_to (m.scx_to + suc count)
 
 -- A pass that is there and between two calls, which has so much left of its share, may give the
 -- slot the name: it is its own, and this its slot, which holds nothing, and whose words are all 0.
-pub record MayTake (t : Lasting) (p : SeatedPass) (m : Memory) (left : Remaining) (name slot : RecordNo) : Type 0 where
+pub record MayTake (t : Lasting) (p : SeatedPass) (m : PassMemory) (left : Remaining) (name slot : RecordNo) : Type 0 where
   pub is_pass : p.number.0 < t.lay.passes
   pub there : m.away ≡ false
   pub share : IsShare p.layout (past_of p []) p.number.0 left left.next_node left.next_scx

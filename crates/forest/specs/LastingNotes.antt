@@ -6,7 +6,7 @@ use Rattle.planting.specs.Plantings.{PlantingView}
 use Rattle.resting.specs.Dead.{IsUnborn, IsUnnamedScx}
 use Rattle.resting.specs.Records.{Record, the_node, the_scx}
 use Rattle.forest.specs.TableRule.{history_of}
-use Rattle.forest.specs.declared.lasting_view.Memory.{Memory}
+use Rattle.forest.specs.declared.lasting_view.PassMemory.{PassMemory}
 use Rattle.forest.specs.declared.lasting_view.Noted.{Noted}
 use Rattle.forest.specs.declared.lasting_view.NoteView.{NoteView}
 use Rattle.forest.specs.declared.lasting_view.NoteView.TheVariants.{MarkedOrDead, DeadBy, OutOfReach, DoneWith}
@@ -20,11 +20,11 @@ abbrev pub noted_as : RecordNo → NoteView → Noted
 noted_as name note = record { name = name; note = note }
 
 -- what is remembered of a rest
-abbrev pub memory_rested : Memory → Memory
+abbrev pub memory_rested : PassMemory → PassMemory
 memory_rested m = record m { away = false; often = suc m.often }
 
 -- what is remembered while the pass is away
-abbrev pub memory_away : Memory → Memory
+abbrev pub memory_away : PassMemory → PassMemory
 memory_away m = record m { away = true }
 
 -- how often another pass had rested, by what its word was; nothing if it was away, and so rests
@@ -32,12 +32,12 @@ abbrev pub waits_of : ℕ → Option ℕ
 waits_of n = if n % 2 == 0 then Some (n / 2) else None
 
 -- what is remembered of a first look at the word of the pass q, that was n, after these rows
-abbrev pub memory_looked : Memory → ℕ → ℕ → List Row → Memory
+abbrev pub memory_looked : PassMemory → ℕ → ℕ → List Row → PassMemory
 memory_looked m q n rows = record m { polls = record { pass = record { 0 = q }; since = rows; waits = waits_of n } ∷ m.polls }
 
 -- what is remembered of a look at the word, that was n, of the pass of a poll that had rested so
 -- often
-abbrev pub memory_polled : Memory → Polled → (seen n : ℕ) → Memory
+abbrev pub memory_polled : PassMemory → Polled → (seen n : ℕ) → PassMemory
 memory_polled m poll seen n = if n == 2 * seen then m else record m { polls = record poll { waits = None } ∷ m.polls }
 
 -- x is one of these
@@ -51,7 +51,7 @@ rested_poll q rows = record { pass = record { 0 = q }; since = rows; waits = Non
 
 -- The pass is there, and has rested since these rows, and it has polled that so has each other,
 -- each since a moment of its own.
-pub record HasRestedSince (lay : Layout) (p : SeatedPass) (m : Memory) (rows : List Row) : Type 0 where
+pub record HasRestedSince (lay : Layout) (p : SeatedPass) (m : PassMemory) (rows : List Row) : Type 0 where
   pub there : m.away ≡ false
   pub own : Extends (history_of p.planting p.rested) (history_of p.planting rows)
   pub others : (q : ℕ) → q < lay.passes → q ≢ p.number.0 → (since : List Row) × IsIn (rested_poll q since) m.polls × Extends (history_of p.planting since) (history_of p.planting rows)
@@ -77,15 +77,15 @@ further_all rows [] notes = notes
 further_all rows (n ∷ ns) notes = record { name = n.name; note = further rows n.note } ∷ further_all rows ns notes
 
 -- what is remembered once these notes have gone on
-abbrev pub memory_noted : Memory → List Noted → List Row → Memory
+abbrev pub memory_noted : PassMemory → List Noted → List Row → PassMemory
 memory_noted m chosen rows = record m { notes = further_all rows chosen m.notes }
 
 -- what is remembered of a look at the mark of a name that is held, which was n, after these rows
-abbrev pub memory_marked : Memory → RecordNo → (n : ℕ) → List Row → Memory
+abbrev pub memory_marked : PassMemory → RecordNo → (n : ℕ) → List Row → PassMemory
 memory_marked m name n rows = if n == 0 then m else record m { notes = noted_as name (MarkedOrDead rows) ∷ m.notes }
 
 -- what is remembered of a node that had left with no mark after these rows
-abbrev pub memory_left : Memory → NodeNo → List Row → Memory
+abbrev pub memory_left : PassMemory → NodeNo → List Row → PassMemory
 memory_left m n rows = record m { notes = noted_as (Node n) (MarkedOrDead rows) ∷ m.notes }
 
 -- The name is the pass's own, taken as it rested: of a node that was never put in by then, or of a
@@ -95,17 +95,17 @@ IsUnused lay o (the_node n) rest = IsUnborn lay o rest n
 IsUnused lay o (the_scx s) rest = IsUnnamedScx lay o rest s
 
 -- what is remembered of such a name: it is out of reach
-abbrev pub memory_unused : Memory → RecordNo → Memory
+abbrev pub memory_unused : PassMemory → RecordNo → PassMemory
 memory_unused m name = record m { notes = noted_as name OutOfReach ∷ m.notes }
 
 -- what is remembered of an SCX-record that was done with its node of this place, as a look at the
 -- node's info told, which was n, or as the pass knew; nothing if the info named that SCX-record
-abbrev pub memory_done : Memory → ScxNo → (j : ℕ) → Memory
+abbrev pub memory_done : PassMemory → ScxNo → (j : ℕ) → PassMemory
 memory_done m s j = record m { notes = noted_as (Scx s) (DoneWith j) ∷ m.notes }
 
-abbrev pub memory_looked_at : Memory → ScxNo → (j n : ℕ) → Memory
+abbrev pub memory_looked_at : PassMemory → ScxNo → (j n : ℕ) → PassMemory
 memory_looked_at m s j n = if n == s.0 then m else memory_done m s j
 
 -- and of one that is dead after these rows
-abbrev pub memory_over : Memory → ScxNo → List Row → Memory
+abbrev pub memory_over : PassMemory → ScxNo → List Row → PassMemory
 memory_over m s rows = record m { notes = noted_as (Scx s) (MarkedOrDead rows) ∷ m.notes }

@@ -15,7 +15,7 @@ use Rattle.forest.specs.CallSteps.{IsOfMapCall}
 use Rattle.forest.specs.TableRule.{ByOthers, MayStep, Owns, history_of, past_of, seated_pass}
 use Rattle.forest.specs.LastingMemory.{AreHeldOrGone, IsDealt, RememberWell, present}
 use Rattle.forest.specs.declared.lasting_view.LastingView.{LastingView}
-use Rattle.forest.specs.declared.lasting_view.Memory.{Memory}
+use Rattle.forest.specs.declared.lasting_view.PassMemory.{PassMemory}
 use Rattle.forest.specs.declared.rule.CallStep.{CallStep}
 use Rattle.forest.specs.declared.rule.Plot.{Plot}
 use Rattle.forest.specs.declared.view.SeatedPass.{SeatedPass}
@@ -46,13 +46,13 @@ abbrev pub FillsFresh : (Layout → History → ℕ → Type 0) → CallStep →
 FillsFresh allows said p = (others : List Row) → ByOthers p.number.0 others → IsRun allows p.layout (past_of p others) → IsUntaken p.layout (past_of p others) (record_of said.step.word) → IsOwnRecord p.layout p.number.0 (record_of said.step.word) → said.step.kind ≡ Fill
 
 -- what the step fills is dealt
-abbrev pub FillsDealt : CallStep → Memory → Type 0
+abbrev pub FillsDealt : CallStep → PassMemory → Type 0
 FillsDealt said m = said.step.kind ≡ Fill → IsDealt m (record_of said.step.word)
 
 -- A pass that remembers so much may make the step: it is there, and the step is lawful, and one of
 -- a map's call that began since its last rest; and of names that nobody has taken it comes only to
 -- dealt ones, to fill them.
-pub record MayStepOn (allows : Layout → History → ℕ → Type 0) (said : CallStep) (p : SeatedPass) (m : Memory) : Type 0 where
+pub record MayStepOn (allows : Layout → History → ℕ → Type 0) (said : CallStep) (p : SeatedPass) (m : PassMemory) : Type 0 where
   pub may : MayStep allows said p
   pub of_call : IsOfMapCall allows said p
   pub there : m.away ≡ false
@@ -72,16 +72,16 @@ pub record HasLearnt (allows : Layout → History → ℕ → Type 0) (rested : 
 
 -- So has the pass of a seat that remembers m; and it remembers by then what `after` makes of the
 -- run.
-abbrev pub LearnsWith : (Layout → History → ℕ → Type 0) → (List Row → Memory) → LastingView → LastingView → Type 0
+abbrev pub LearnsWith : (Layout → History → ℕ → Type 0) → (List Row → PassMemory) → LastingView → LastingView → Type 0
 LearnsWith allows after v w = (rows : List Row) × HasLearnt allows (λ old. old) v.passes rows w.passes × (w.memories ≡ after rows ∷ [])
 
 -- so has one that rests now, and remembers so much by then
-abbrev pub LearnsAtRest : (Layout → History → ℕ → Type 0) → Memory → LastingView → LastingView → Type 0
+abbrev pub LearnsAtRest : (Layout → History → ℕ → Type 0) → PassMemory → LastingView → LastingView → Type 0
 LearnsAtRest allows after v w = (rows : List Row) × HasLearnt allows (λ old. rows) v.passes rows w.passes × (w.memories ≡ after ∷ [])
 
 -- The only pass of a seat has come to know the run, and remembers what it did; and in that run the
 -- word was n.
-pub record LoadsWord (allows : Layout → History → ℕ → Type 0) (m : Memory) (u : Word) (n : ℕ) (v w : LastingView) : Type 0 where
+pub record LoadsWord (allows : Layout → History → ℕ → Type 0) (m : PassMemory) (u : Word) (n : ℕ) (v w : LastingView) : Type 0 where
   pub rows : List Row
   pub learnt : HasLearnt allows (λ old. old) v.passes rows w.passes
   pub memory : w.memories ≡ m ∷ []
@@ -89,7 +89,7 @@ pub record LoadsWord (allows : Layout → History → ℕ → Type 0) (m : Memor
 
 -- The only pass of a seat has come to know the run, has gone on by rows of its own, and rests now;
 -- and by then it remembers so much.
-pub record GoesOnWith (allows : Layout → History → ℕ → Type 0) (on : PlantingView → List Row → List Row) (after : Memory) (v w : LastingView) : Type 0 where
+pub record GoesOnWith (allows : Layout → History → ℕ → Type 0) (on : PlantingView → List Row → List Row) (after : PassMemory) (v w : LastingView) : Type 0 where
   pub pass : SeatedPass
   pub others : List Row
   pub was : v.passes ≡ pass ∷ []

@@ -5,7 +5,7 @@ use Rattle.resting.specs.Records.{Record, the_node, the_scx}
 use Rattle.slots.specs.Held.{same_record}
 use Rattle.slots.specs.Lasting.{Lasting}
 use Rattle.forest.specs.LastingMemory.{record_at}
-use Rattle.forest.specs.declared.lasting_view.Memory.{Memory}
+use Rattle.forest.specs.declared.lasting_view.PassMemory.{PassMemory}
 use Rattle.forest.specs.declared.lasting_view.RecordNo.{RecordNo}
 use Rattle.forest.specs.declared.lasting_view.RecordNo.TheVariants.{Node, Scx}
 
@@ -21,19 +21,19 @@ without x (n ∷ ns) = if same_record (record_at n) x then without x ns else n �
 
 -- What is remembered once the slot of the name holds nothing, and names up to these two are dealt;
 -- and if as many are dealt as before.
-abbrev pub memory_without : Lasting → Memory → RecordNo → (nodes_to scx_to : ℕ) → Memory
+abbrev pub memory_without : Lasting → PassMemory → RecordNo → (nodes_to scx_to : ℕ) → PassMemory
 memory_without t m name nodes_to scx_to = record m { nodes_to = nodes_to; scx_to = scx_to; holds = without (record_at name) m.holds; empty = slot_number t name ∷ m.empty }
 
-abbrev pub memory_let_go : Lasting → Memory → RecordNo → Memory
+abbrev pub memory_let_go : Lasting → PassMemory → RecordNo → PassMemory
 memory_let_go t m name = memory_without t m name m.nodes_to m.scx_to
 
 -- so it is once the last name that is dealt is given back, which nobody has taken
-abbrev pub memory_given_back : Lasting → Memory → RecordNo → Memory
+abbrev pub memory_given_back : Lasting → PassMemory → RecordNo → PassMemory
 memory_given_back t m (Node n) = memory_without t m (Node n) n.0 m.scx_to
 memory_given_back t m (Scx s) = memory_without t m (Scx s) m.nodes_to s.0
 
 -- the name is the last that is dealt
-abbrev pub IsLastDealt : Memory → Record → Type 0
+abbrev pub IsLastDealt : PassMemory → Record → Type 0
 IsLastDealt m (the_node n) = m.nodes_to ≡ suc n
 IsLastDealt m (the_scx s) = m.scx_to ≡ suc s
 
@@ -43,7 +43,7 @@ IsLeft left (the_node n) = HasNode left n
 IsLeft left (the_scx s) = HasScx left s
 
 -- what is remembered once this word is 0
-abbrev pub memory_cleared : Memory → Word → Memory
+abbrev pub memory_cleared : PassMemory → Word → PassMemory
 memory_cleared m u = record m { zeros = u ∷ m.zeros }
 
 -- the record was taken

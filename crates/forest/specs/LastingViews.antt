@@ -8,17 +8,17 @@ use Rattle.slots.specs.Lasting.{IsLasting, Lasting}
 use Rattle.forest.specs.TableRule.{first_of, history_of, new_passes, rest_of}
 use Rattle.forest.specs.LastingRule.{plot_in}
 use Rattle.forest.specs.declared.lasting_view.LastingView.{LastingView}
-use Rattle.forest.specs.declared.lasting_view.Memory.{Memory}
+use Rattle.forest.specs.declared.lasting_view.PassMemory.{PassMemory}
 use Rattle.forest.specs.declared.lasting_view.RecordNo.{RecordNo}
 use Rattle.forest.specs.declared.lasting_view.RecordNo.TheVariants.{Node, Scx}
 
 -- what is remembered by the passes after the first
-abbrev pub rest_of_memories : List Memory → List Memory
+abbrev pub rest_of_memories : List PassMemory → List PassMemory
 rest_of_memories [] = []
 rest_of_memories (m ∷ ms) = ms
 
 -- and by the first, if there is one
-abbrev pub first_memory_of : List Memory → List Memory
+abbrev pub first_memory_of : List PassMemory → List PassMemory
 first_memory_of [] = []
 first_memory_of (m ∷ ms) = m ∷ []
 
@@ -45,7 +45,7 @@ scx_from from zero = []
 scx_from from (suc count) = Scx record { 0 = from } ∷ scx_from (suc from) count
 
 -- what a pass remembers at the start: its names of the first lap are dealt, and held
-abbrev pub first_memory : Lasting → ℕ → Memory
+abbrev pub first_memory : Lasting → ℕ → PassMemory
 first_memory t c = record {
   away = false;
   often = 0;
@@ -59,7 +59,7 @@ first_memory t c = record {
 }
 
 -- what n passes remember, from that one on
-abbrev pub first_memories : Lasting → (from n : ℕ) → List Memory
+abbrev pub first_memories : Lasting → (from n : ℕ) → List PassMemory
 first_memories t from zero = []
 first_memories t from (suc n) = first_memory t from ∷ first_memories t (suc from) n
 

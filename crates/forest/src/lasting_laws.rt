@@ -34,7 +34,7 @@ ghost use Rattle.forest.specs.LastingViews.{OpensLasting, first_of_view, first_v
 ghost use Rattle.forest.specs.Passes.{Each};
 ghost use Rattle.forest.specs.TableRule.{Made, history_of, past_of};
 ghost use Rattle.forest.specs.declared.lasting_view.LastingView.{LastingView};
-ghost use Rattle.forest.specs.declared.lasting_view.Memory.{Memory};
+ghost use Rattle.forest.specs.declared.lasting_view.PassMemory.{PassMemory};
 ghost use Rattle.forest.specs.declared.lasting_view.Noted.{Noted};
 ghost use Rattle.forest.specs.declared.lasting_view.NoteView.{NoteView};
 ghost use Rattle.forest.specs.declared.lasting_view.Polled.{Polled};
@@ -52,7 +52,7 @@ use resting::{dead_comes_back, notes_hold, unborn_stays_out};
 pub fn steps_last<S: Shape>()
     ensures { (t : Lasting) (planting : PlantingView)
         (slots id : ℕ) (me : Me ℕ LastingView) (said : CallStep) (at : ℕ) (f told : ℕ → ℕ)
-        (p : SeatedPass) (m : Memory)
+        (p : SeatedPass) (m : PassMemory)
         → ((h : History) → IsRun S.allows t.lay h → IsMapRun t.lay h)
         → at ≡ table_place t said.step.word
         → ((n : ℕ) → f n ≡ word_after said.step.access n)
@@ -69,14 +69,14 @@ pub fn steps_last<S: Shape>()
 /// by one store, and goes away by one. It does nothing; a caller learns this from its contract.
 pub fn rests_last<S: Shape>()
     ensures rests { (t : Lasting) (planting : PlantingView)
-        (slots id : ℕ) (me : Me ℕ LastingView) (p : SeatedPass) (m : Memory)
+        (slots id : ℕ) (me : Me ℕ LastingView) (p : SeatedPass) (m : PassMemory)
         → me.0.passes ≡ p ∷ [] → me.0.memories ≡ m ∷ [] → p.number.0 < t.lay.passes
         → AreFinished p.layout p.number.0 0 (past_of p [])
         → Allows (TableLasts S.allows t planting) slots id me (rests_place t.table p.number.0)
         (λ n. 2 * suc m.often)
         (λ n w. LearnsAtRest S.allows (memory_rested m) me.0 w.0 × (w.1 ≡ me.1)) }
     ensures leaves { (t : Lasting) (planting : PlantingView)
-        (slots id : ℕ) (me : Me ℕ LastingView) (p : SeatedPass) (m : Memory)
+        (slots id : ℕ) (me : Me ℕ LastingView) (p : SeatedPass) (m : PassMemory)
         → me.0.passes ≡ p ∷ [] → me.0.memories ≡ m ∷ [] → p.number.0 < t.lay.passes
         → AreFinished p.layout p.number.0 0 (past_of p [])
         → Allows (TableLasts S.allows t planting) slots id me (rests_place t.table p.number.0)
@@ -91,12 +91,12 @@ pub fn rests_last<S: Shape>()
 /// learns this from its contract.
 pub fn looks_last<S: Shape>()
     ensures first { (t : Lasting) (planting : PlantingView)
-        (slots id : ℕ) (me : Me ℕ LastingView) (p : SeatedPass) (m : Memory) (q : ℕ)
+        (slots id : ℕ) (me : Me ℕ LastingView) (p : SeatedPass) (m : PassMemory) (q : ℕ)
         → me.0.passes ≡ p ∷ [] → me.0.memories ≡ m ∷ [] → q < t.lay.passes
         → Allows (TableLasts S.allows t planting) slots id me (rests_place t.table q) (λ n. n)
         (λ n w. LearnsWith S.allows (memory_looked m q n) me.0 w.0 × (w.1 ≡ me.1)) }
     ensures again { (t : Lasting) (planting : PlantingView)
-        (slots id : ℕ) (me : Me ℕ LastingView) (p : SeatedPass) (m : Memory) (poll : Polled)
+        (slots id : ℕ) (me : Me ℕ LastingView) (p : SeatedPass) (m : PassMemory) (poll : Polled)
         (seen : ℕ) → me.0.passes ≡ p ∷ [] → me.0.memories ≡ m ∷ []
         → IsIn poll m.polls → poll.waits ≡ Some seen
         → Allows (TableLasts S.allows t planting) slots id me (rests_place t.table poll.pass.0)
@@ -104,7 +104,7 @@ pub fn looks_last<S: Shape>()
         (λ n w. LearnsWith S.allows (λ rows. memory_polled m poll seen n) me.0 w.0
         × (w.1 ≡ me.1)) }
     ensures notes { (t : Lasting) (planting : PlantingView)
-        (slots id : ℕ) (me : Me ℕ LastingView) (p : SeatedPass) (m : Memory) (at : ℕ)
+        (slots id : ℕ) (me : Me ℕ LastingView) (p : SeatedPass) (m : PassMemory) (at : ℕ)
         (since : List Row) (chosen : List Noted) → me.0.passes ≡ p ∷ []
         → me.0.memories ≡ m ∷ [] → p.number.0 < t.lay.passes → HasRestedSince t.lay p m since
         → Each (λ n. IsIn n m.notes × IsBefore p.planting (history_of p.planting since) n.note)
@@ -123,14 +123,14 @@ pub fn looks_last<S: Shape>()
 pub fn slots_last<S: Shape>()
     ensures lets_go { (t : Lasting)
         (planting : PlantingView) (slots id : ℕ) (me : Me ℕ LastingView) (p : SeatedPass)
-        (m : Memory) (at : ℕ) (name : RecordNo) → me.0.passes ≡ p ∷ []
+        (m : PassMemory) (at : ℕ) (name : RecordNo) → me.0.passes ≡ p ∷ []
         → me.0.memories ≡ m ∷ [] → IsIn name m.holds
         → IsIn (noted_as name NoteView.OutOfReach) m.notes
         → WasTaken (past_of p []) (record_at name)
         → Allows (TableLasts S.allows t planting) slots id me at (λ n. n)
         (λ n w. LearnsWith S.allows (λ rows. memory_let_go t m name) me.0 w.0 × (w.1 ≡ me.1)) }
     ensures gives_back { (t : Lasting) (planting : PlantingView) (slots id : ℕ)
-        (me : Me ℕ LastingView) (p : SeatedPass) (m : Memory) (at : ℕ) (name : RecordNo)
+        (me : Me ℕ LastingView) (p : SeatedPass) (m : PassMemory) (at : ℕ) (name : RecordNo)
         (left : Remaining) → me.0.passes ≡ p ∷ [] → me.0.memories ≡ m ∷ []
         → p.number.0 < t.lay.passes → IsIn name m.holds → IsLastDealt m (record_at name)
         → IsShare p.layout (past_of p []) p.number.0 left left.next_node left.next_scx
@@ -139,7 +139,7 @@ pub fn slots_last<S: Shape>()
         (λ n w. LearnsWith S.allows (λ rows. memory_given_back t m name) me.0 w.0
         × (w.1 ≡ me.1)) }
     ensures zeros { (t : Lasting) (planting : PlantingView)
-        (slots id : ℕ) (me : Me ℕ LastingView) (p : SeatedPass) (m : Memory) (word : Word)
+        (slots id : ℕ) (me : Me ℕ LastingView) (p : SeatedPass) (m : PassMemory) (word : Word)
         (slot : RecordNo) → me.0.passes ≡ p ∷ [] → me.0.memories ≡ m ∷ []
         → IsIn slot m.empty → record_at slot ≡ record_of word → IsWord t.table word
         → Allows (TableLasts S.allows t planting) slots id me (place t.table word) (λ n. 0)
@@ -156,19 +156,19 @@ pub fn names_last<S: Shape>()
         (words : List ℕ) → OpensLasting S.allows t planting words
         → TableLasts S.allows t planting (opening words [] (first_view t planting)) }
     ensures next_node { (t : Lasting) (planting : PlantingView) (slots id : ℕ)
-        (me : Me ℕ LastingView) (p : SeatedPass) (m : Memory) (at : ℕ) (left : Remaining)
+        (me : Me ℕ LastingView) (p : SeatedPass) (m : PassMemory) (at : ℕ) (left : Remaining)
         (slot : RecordNo) → me.0.passes ≡ p ∷ [] → me.0.memories ≡ m ∷ []
         → MayTake t p m left (node_ahead m 0) slot → IsLeft left (record_at (node_ahead m 0))
         → Allows (TableLasts S.allows t planting) slots id me at (λ n. n)
         (λ n w. LearnsAtRest S.allows (memory_with_node m 0 slot) me.0 w.0 × (w.1 ≡ me.1)) }
     ensures next_scx { (t : Lasting) (planting : PlantingView) (slots id : ℕ)
-        (me : Me ℕ LastingView) (p : SeatedPass) (m : Memory) (at : ℕ) (left : Remaining)
+        (me : Me ℕ LastingView) (p : SeatedPass) (m : PassMemory) (at : ℕ) (left : Remaining)
         (slot : RecordNo) → me.0.passes ≡ p ∷ [] → me.0.memories ≡ m ∷ []
         → MayTake t p m left (scx_ahead m 0) slot → IsLeft left (record_at (scx_ahead m 0))
         → Allows (TableLasts S.allows t planting) slots id me at (λ n. n)
         (λ n w. LearnsAtRest S.allows (memory_with_scx m 0 slot) me.0 w.0 × (w.1 ≡ me.1)) }
     ensures nodes { (t : Lasting) (planting : PlantingView)
-        (slots id : ℕ) (me : Me ℕ LastingView) (p : SeatedPass) (m : Memory) (at count : ℕ)
+        (slots id : ℕ) (me : Me ℕ LastingView) (p : SeatedPass) (m : PassMemory) (at count : ℕ)
         (left : Remaining) (slot : RecordNo) → me.0.passes ≡ p ∷ []
         → me.0.memories ≡ m ∷ [] → MayTake t p m left (node_ahead m count) slot
         → left.next_node ≡ m.nodes_to
@@ -176,7 +176,7 @@ pub fn names_last<S: Shape>()
         (λ n w. GoesOnWith S.allows (past_nodes p.number.0 m.nodes_to count)
         (memory_with_node m count slot) me.0 w.0 × (w.1 ≡ me.1)) }
     ensures scx { (t : Lasting) (planting : PlantingView)
-        (slots id : ℕ) (me : Me ℕ LastingView) (p : SeatedPass) (m : Memory) (at count : ℕ)
+        (slots id : ℕ) (me : Me ℕ LastingView) (p : SeatedPass) (m : PassMemory) (at count : ℕ)
         (left : Remaining) (slot : RecordNo) → me.0.passes ≡ p ∷ []
         → me.0.memories ≡ m ∷ [] → MayTake t p m left (scx_ahead m count) slot
         → left.next_scx ≡ m.scx_to
@@ -201,7 +201,7 @@ pub fn seats_last<S: Shape>()
 /// use to it as it rested. It does nothing; a caller learns this from its contract.
 pub fn sights_last<S: Shape>()
     ensures marks { (t : Lasting) (planting : PlantingView) (slots id : ℕ) (me : Me ℕ LastingView)
-        (p : SeatedPass) (m : Memory) (node : NodeNo) → me.0.passes ≡ p ∷ []
+        (p : SeatedPass) (m : PassMemory) (node : NodeNo) → me.0.passes ≡ p ∷ []
         → me.0.memories ≡ m ∷ [] → p.number.0 < t.lay.passes
         → IsIn (RecordNo.Node node) m.holds → IsTakenNode (past_of p []) node.0
         → Allows (TableLasts S.allows t planting) slots id me
@@ -209,20 +209,20 @@ pub fn sights_last<S: Shape>()
         (λ n w. LearnsWith S.allows (memory_marked m (RecordNo.Node node) n) me.0 w.0
         × (w.1 ≡ me.1)) }
     ensures loads { (t : Lasting) (planting : PlantingView) (slots id : ℕ) (me : Me ℕ LastingView)
-        (p : SeatedPass) (m : Memory) (name : RecordNo) (word : Word) → me.0.passes ≡ p ∷ []
+        (p : SeatedPass) (m : PassMemory) (name : RecordNo) (word : Word) → me.0.passes ≡ p ∷ []
         → me.0.memories ≡ m ∷ [] → p.number.0 < t.lay.passes → IsIn name m.holds
         → record_of word ≡ record_at name → IsWord t.lay word
         → Allows (TableLasts S.allows t planting) slots id me (table_place t word) (λ n. n)
         (λ n w. LoadsWord S.allows m word n me.0 w.0 × (w.1 ≡ me.1)) }
     ensures left { (t : Lasting) (planting : PlantingView) (slots id : ℕ) (me : Me ℕ LastingView)
-        (p : SeatedPass) (m : Memory) (at : ℕ) (node : NodeNo) → me.0.passes ≡ p ∷ []
+        (p : SeatedPass) (m : PassMemory) (at : ℕ) (node : NodeNo) → me.0.passes ≡ p ∷ []
         → me.0.memories ≡ m ∷ [] → p.number.0 < t.lay.passes
         → HasLeftUnmarked (past_of p []) node.0
         → Allows (TableLasts S.allows t planting) slots id me at (λ n. n)
         (λ n w. LearnsWith S.allows (λ rows. memory_left m node p.known) me.0 w.0
         × (w.1 ≡ me.1)) }
     ensures unused { (t : Lasting) (planting : PlantingView) (slots id : ℕ)
-        (me : Me ℕ LastingView) (p : SeatedPass) (m : Memory) (at : ℕ) (name : RecordNo)
+        (me : Me ℕ LastingView) (p : SeatedPass) (m : PassMemory) (at : ℕ) (name : RecordNo)
         → me.0.passes ≡ p ∷ [] → me.0.memories ≡ m ∷ [] → p.number.0 < t.lay.passes
         → m.away ≡ false
         → IsUnused p.layout p.number.0 (record_at name) (history_of p.planting p.rested)
@@ -238,7 +238,7 @@ pub fn sights_last<S: Shape>()
 /// node. It does nothing; a caller learns this from its contract.
 pub fn finished_last<S: Shape>()
     ensures looks { (t : Lasting) (planting : PlantingView) (slots id : ℕ) (me : Me ℕ LastingView)
-        (p : SeatedPass) (m : Memory) (s : ScxNo) (j n : ℕ) → me.0.passes ≡ p ∷ []
+        (p : SeatedPass) (m : PassMemory) (s : ScxNo) (j n : ℕ) → me.0.passes ≡ p ∷ []
         → me.0.memories ≡ m ∷ [] → IsIn (RecordNo.Scx s) m.holds
         → IsTakenScx (past_of p []) s.0 → AreFinished p.layout p.number.0 0 (past_of p [])
         → member (past_of p []) s.0 j ≡ n
@@ -246,14 +246,14 @@ pub fn finished_last<S: Shape>()
         (λ v w. LearnsWith S.allows (λ rows. memory_looked_at m s j v) me.0 w.0
         × (w.1 ≡ me.1)) }
     ensures knows { (t : Lasting) (planting : PlantingView) (slots id : ℕ) (me : Me ℕ LastingView)
-        (p : SeatedPass) (m : Memory) (s : ScxNo) (at j : ℕ) → me.0.passes ≡ p ∷ []
+        (p : SeatedPass) (m : PassMemory) (s : ScxNo) (at j : ℕ) → me.0.passes ≡ p ∷ []
         → me.0.memories ≡ m ∷ [] → IsIn (RecordNo.Scx s) m.holds
         → IsTakenScx (past_of p []) s.0 → AreFinished p.layout p.number.0 0 (past_of p [])
         → WasDoneWith p.layout (past_of p []) s.0 j
         → Allows (TableLasts S.allows t planting) slots id me at (λ v. v)
         (λ v w. LearnsWith S.allows (λ rows. memory_done m s j) me.0 w.0 × (w.1 ≡ me.1)) }
     ensures dead { (t : Lasting) (planting : PlantingView) (slots id : ℕ) (me : Me ℕ LastingView)
-        (p : SeatedPass) (m : Memory) (s : ScxNo) (at : ℕ) → me.0.passes ≡ p ∷ []
+        (p : SeatedPass) (m : PassMemory) (s : ScxNo) (at : ℕ) → me.0.passes ≡ p ∷ []
         → me.0.memories ≡ m ∷ [] → IsIn (RecordNo.Scx s) m.holds
         → IsTakenScx (past_of p []) s.0 → AreFinished p.layout p.number.0 0 (past_of p [])
         → ((j : ℕ) → j < count (past_of p []) s.0

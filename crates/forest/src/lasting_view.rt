@@ -42,7 +42,7 @@ pub struct Polled {
 }
 
 /// What a pass remembers from one call to the next.
-pub struct Memory {
+pub struct PassMemory {
     /// Whether it is away.
     pub away: bool,
     /// How often it has rested.
@@ -68,5 +68,5 @@ pub struct LastingView {
     /// The passes.
     pub passes: LinkedList<SeatedPass>,
     /// What they remember.
-    pub memories: LinkedList<Memory>,
+    pub memories: LinkedList<PassMemory>,
 }
