@@ -58,7 +58,7 @@ fn act<S: Shape, M: CallMachine<S>, T: Shape>(
 {
     let start = hand.node_start(node);
     let word = Word::Node(node, part);
-    act_on::<S, M, T>(hand, seat, start, word, kind, access)
+    step_from::<S, M>(hand, seat, Step { kind, word, access }, start)
 }
 
 /// Loads a settled word of the SCX-record, which begins there.
