@@ -24,7 +24,7 @@ use Rattle.forest.specs.TableRule.{Owns, history_of}
 use Rattle.forest.specs.LastingMemory.{IsDealt}
 use Rattle.forest.specs.LastingNames.{past_nodes, past_scxs, scx_rows}
 use Rattle.forest.specs.LastingRule.{plot_in}
-use Rattle.forest.specs.declared.lasting_view.PassMemory.{PassMemory}
+use Rattle.forest.specs.declared.memory.PassMemory.{PassMemory}
 use Rattle.forest.specs.declared.view.SeatedPass.{SeatedPass}
 use Rattle.forest.proofs.Moves.{owns_more}
 

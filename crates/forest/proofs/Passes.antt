@@ -9,7 +9,7 @@ use Rattle.forest.specs.declared.view.SeatedPass.{SeatedPass}
 use Rattle.forest.specs.declared.view.SeatView.{SeatView}
 use Rattle.forest.specs.declared.pass.Pass.TheInside.{Inside}
 use Rattle.forest.specs.TableRule.{history_of}
-use Rattle.forest.specs.Traces.{IsSeated, Trace, HoldsForCall, known_of, planting_of, rested_of, run_at, rows_of, seat_steps}
+use Rattle.forest.specs.Traces.{IsSeated, Trace, HoldsForCall, known_of, planting_of, memory_of, run_at, rows_of, seat_steps}
 use Rattle.forest.specs.Shares.{IsBetweenCalls}
 use Rattle.forest.specs.Passes.{PassView, Ground, IsOf, AreOfCall, CanUse, HasGoneOn, HasTakenNothing, IsLaterView, run_of}
 use Rattle.forest.specs.PassInvariant.{pass_view, IsPass}
@@ -42,7 +42,7 @@ call_of p x number = record { layout = p.layout; pass = p.number.0; is_pass = x.
 
 -- a call of it begins where P holds of what it knows
 pub begun_with : {allows : Layout → History → ℕ → Type 0} {mode : Mode} {T : Type 0} (p : Inside T) (x : IsPass allows mode p) (number : ℕ) {P : History → Type 0} → P (run_at p.seat.me.0.passes) → HoldsForCall allows p.seat.me.0.passes (call_of p x number) (λ h. ((call_of p x number).start ≡ h) × P h)
-begun_with p x number holds = record { planting = planting_of p.seat.me.0.passes; known = known_of p.seat.me.0.passes; is = record { rested = rested_of p.seat.me.0.passes; alone = x.seat.alone; since = x.seat.since }; sound = x.sound; so = (refl, holds) }
+begun_with p x number holds = record { planting = planting_of p.seat.me.0.passes; known = known_of p.seat.me.0.passes; is = record { memory = memory_of p.seat.me.0.passes; alone = x.seat.alone; since = x.seat.since }; sound = x.sound; so = (refl, holds) }
 
 -- the pass with its seat as it is now
 abbrev pub seated : {T : Type 0} → Inside T → Seat ℕ SeatView → Inside T

@@ -18,7 +18,7 @@ pub record IsOfMapCall (allows : Layout → History → ℕ → Type 0) (said : 
   pub layout : call.layout ≡ p.layout
   pub pass : call.pass ≡ p.number.0
   pub number : call.number ≡ said.call
-  pub since : Extends call.start (history_of p.planting p.rested)
+  pub since : Extends call.start (history_of p.planting p.memory.rested)
   pub step : (others : List Row) → ByOthers p.number.0 others → IsRun allows p.layout (past_of p others) → IsMapStep call (past_of p others) (row p.number.0 said (past_of p others))
 
 -- so it is with each step for which the machine of a dictionary waits

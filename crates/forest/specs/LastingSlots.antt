@@ -5,9 +5,9 @@ use Rattle.resting.specs.Records.{Record, the_node, the_scx}
 use Rattle.slots.specs.Held.{same_record}
 use Rattle.slots.specs.Lasting.{Lasting}
 use Rattle.forest.specs.LastingMemory.{record_at}
-use Rattle.forest.specs.declared.lasting_view.PassMemory.{PassMemory}
-use Rattle.forest.specs.declared.lasting_view.RecordNo.{RecordNo}
-use Rattle.forest.specs.declared.lasting_view.RecordNo.TheVariants.{Node, Scx}
+use Rattle.forest.specs.declared.memory.PassMemory.{PassMemory}
+use Rattle.forest.specs.declared.memory.RecordNo.{RecordNo}
+use Rattle.forest.specs.declared.memory.RecordNo.TheVariants.{Node, Scx}
 
 -- the slot of the name
 abbrev pub slot_number : Lasting → RecordNo → RecordNo

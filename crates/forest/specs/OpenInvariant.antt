@@ -18,7 +18,7 @@ use Rattle.forest.specs.Opened.{OpenView}
 use Rattle.forest.specs.Passes.{PassView, run_of, steps_of, taken_of}
 use Rattle.forest.specs.PassInvariant.{IsPass}
 use Rattle.forest.specs.StraightCalls.{IsSameDictCall}
-use Rattle.forest.specs.TableRule.{seated_pass}
+use Rattle.forest.specs.TableRule.{no_memory, seated_pass}
 use Rattle.forest.specs.Traces.{Stands, known_of, planting_of, seat_steps, shared_nodes, weight, KnowsAs}
 
 -- what contracts see of a call that is held open
@@ -41,7 +41,7 @@ pass_as p s = record {
   number = record { 0 = p.number };
   layout = p.layout;
   share = p.share;
-  seat = record s { table_id = p.table; me = (record { passes = seated_pass p.number p.layout p.planting [] p.known ∷ [] }, []) };
+  seat = record s { table_id = p.table; me = (record { passes = seated_pass p.number p.layout p.planting no_memory p.known ∷ [] }, []) };
   blamed = p.blamed;
   shape = record {};
 }
