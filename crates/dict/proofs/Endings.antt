@@ -12,6 +12,7 @@ use Rattle.template.specs.Common.{MapCall, MapEdit, Edit, Get, OneValue, edit_ke
 use Rattle.template.specs.Common.{HasLostTriesTo, asked_key, FoundBy, HasTriedAtMost, HasTriedAllBut, Goal, Key as ToKey, End, Rule, most_nodes, nodes_in_try}
 use Rattle.ordered_map.proofs.MapLemmas.{run_since, run_spells}
 use Rattle.template.proofs.Lemmas.{tried_few}
+use Rattle.prims.specs.Shares.{share_end}
 use Rattle.template.specs.declared.walk.Found.{Found}
 use Rattle.template.specs.declared.walk.Way.{Way}
 use Rattle.tree.specs.declared.key_edit.KeyEdit.{KeyEdit}

@@ -24,7 +24,7 @@ use Rattle.forest.specs.TableRule.{history_of, past_of, seat_view}
 use Rattle.forest.specs.LastingMemory.{AreHeldOrGone, IsDealt, IsEmptySlot, IsGone, IsGoneRecord, IsHeldName, IsNoteSo, IsZeroWord, Present, RemembersNames, RemembersWell, present, record_at}
 use Rattle.forest.specs.LastingNotes.{IsIn, noted_as}
 use Rattle.forest.specs.LastingRule.{LearnsWith, TableLasts}
-use Rattle.forest.specs.LastingSlots.{IsLastDealt, IsLeft, WasTaken, memory_cleared, memory_given_back, memory_let_go, memory_without, slot_number, without}
+use Rattle.forest.specs.LastingSlots.{IsLastDealt, IsNotBefore, WasTaken, memory_cleared, memory_given_back, memory_let_go, memory_without, slot_number, without}
 use Rattle.forest.specs.declared.view.SeatView.{SeatView}
 use Rattle.forest.specs.declared.memory.PassMemory.{PassMemory}
 use Rattle.forest.specs.declared.memory.NoteView.TheVariants.{OutOfReach}
@@ -79,10 +79,10 @@ dealt_same : (t : Lasting) (m : PassMemory) (name : RecordNo) (y : Record) → I
 dealt_same t m name (the_node n) d = d
 dealt_same t m name (the_scx s) d = d
 
--- what is left of a share, nobody has taken
-pub left_untaken : (lay : Layout) (h : History) (o : ℕ) (left : Remaining) (x : Record) → IsOwnRecord lay o x → IsLeft left x → IsShare lay h o left left.next_node left.next_scx → IsUntaken lay h x
-left_untaken lay h o left (the_node n) own is_left share = ((let a = own.from in omega (arith, a)), share.untaken_nodes n is_left)
-left_untaken lay h o left (the_scx s) own is_left share = ((λ e. let a = own.from in omega (arith, a, e)), share.untaken s is_left)
+-- what is not before what is left of a share, nobody has taken
+pub left_untaken : (lay : Layout) (h : History) (o : ℕ) (left : Remaining) (x : Record) → IsOwnRecord lay o x → IsNotBefore left x → IsShare lay h o left left.next_node left.next_scx → IsUntaken lay h x
+left_untaken lay h o left (the_node n) own is_left share = ((let a = own.from in omega (arith, a)), share.untaken_nodes n own is_left)
+left_untaken lay h o left (the_scx s) own is_left share = ((λ e. let a = own.from in omega (arith, a, e)), share.untaken s own is_left)
 
 -- What slots hold once one of them holds nothing
 
@@ -204,7 +204,7 @@ module _ (allows : Layout → History → ℕ → Type 0) (t : Lasting) (plantin
       )
 
   -- The last name that is dealt is given back, if the pass has it left of its share.
-  pub lasting_gives_back : (at : ℕ) (name : RecordNo) (left : Remaining) → p.number.0 < t.lay.passes → IsIn name p.memory.holds → IsLastDealt p.memory (record_at name) → IsShare p.layout (past_of p []) p.number.0 left left.next_node left.next_scx → IsLeft left (record_at name) → Allows (TableLasts allows t planting) slots id me at (λ n. n) (λ n w. LearnsWith allows (λ rows. memory_given_back t p.memory name) me.0 w.0 × (w.1 ≡ me.1))
+  pub lasting_gives_back : (at : ℕ) (name : RecordNo) (left : Remaining) → p.number.0 < t.lay.passes → IsIn name p.memory.holds → IsLastDealt p.memory (record_at name) → IsShare p.layout (past_of p []) p.number.0 left left.next_node left.next_scx → IsNotBefore left (record_at name) → Allows (TableLasts allows t planting) slots id me at (λ n. n) (λ n w. LearnsWith allows (λ rows. memory_given_back t p.memory name) me.0 w.0 × (w.1 ≡ me.1))
   lasting_gives_back at name left is_pass held_name is_last share its_left s kept sized fits small = (
     seat_view (aware allows t planting s kept id me.0 fits p one (memory_given_back t p.memory name) ∷ []),
     keeps,
@@ -228,7 +228,7 @@ module _ (allows : Layout → History → ℕ → Type 0) (t : Lasting) (plantin
       untaken : IsUntaken t.lay h (record_at name)
       untaken = left_untaken t.lay h o left (record_at name) mine.0.0 its_left (share_now allows t planting s kept id me.0 fits p one left is_pass share)
 
-      given : (k : RecordNo) → IsLeft left (record_at k) → IsLastDealt p.memory (record_at k) → IsHeldName t o before k → IsUntaken t.lay h (record_at k) → TableLasts allows t planting (seen_by allows t planting stays s kept id me.0 fits p one at kept.rows (memory_given_back t p.memory k))
+      given : (k : RecordNo) → IsNotBefore left (record_at k) → IsLastDealt p.memory (record_at k) → IsHeldName t o before k → IsUntaken t.lay h (record_at k) → TableLasts allows t planting (seen_by allows t planting stays s kept id me.0 fits p one at kept.rows (memory_given_back t p.memory k))
       given (Node n) is_left last its free = let_go_then allows t planting stays s kept id me.0 fits p one at (Node n) n.0 p.memory.scx_to its (inl free)
           (λ i z e. absurd (free.1 (subst (IsTakenNode h) (one_number i n.0 e) z)))
           (λ y its_own d k. node_dealt n.0 last y d)

@@ -4,7 +4,7 @@ use mathlib.Core.Option.{some}
 use lib.ListN.{get_elem?}
 use native.Mathlib.Decide.{dec_lt}
 use Rattle.atomic_table.specs.Table.{State, Me, Allows, keeps}
-use Rattle.histories.specs.Common.{Layout, Row, Word, History, IsOwnNode, IsOwnScx, IsTakenNode, IsRun, Remaining, HasNode, HasScx}
+use Rattle.histories.specs.Common.{Layout, Row, Word, History, IsOwnNode, IsOwnScx, IsTakenNode, IsRun, Remaining}
 use Rattle.arena.proofs.Lemmas.{ends_self}
 use Rattle.planting.specs.Plantings.{PlantingView}
 use Rattle.ordered_map.specs.Paths.{WasInTree}
@@ -16,7 +16,7 @@ use Rattle.slots.specs.Held.{Held, IsHeld, same_record, with_slot}
 use Rattle.slots.specs.Lasting.{IsOwnRecord, IsUntaken, Lasting, slot_of}
 use Rattle.slots.specs.Window.{IsWindow}
 use Rattle.slots.proofs.Lemmas.{none_passed, passes_over, record_discrete, rest_other, rest_same, seen_moves, takes, with_other, with_same}
-use Rattle.forest.specs.LastingSlots.{IsLeft}
+use Rattle.forest.specs.LastingSlots.{IsNotBefore}
 use Rattle.forest.specs.Passes.{Each}
 use Rattle.forest.specs.TableRule.{history_of, Owns, seat_view, seated_pass}
 use Rattle.forest.specs.LastingMemory.{AreHeldOrGone, IsDealt, IsEmptySlot, IsGone, IsZeroWord, Present, RemembersNames, RemembersWell, present, record_at}
@@ -206,8 +206,8 @@ module _ (allows : Layout → History → ℕ → Type 0) (t : Lasting) (plantin
       share : IsShare t.lay (history_of planting kept.rows) o left left.next_node left.next_scx
       share = its_share allows t planting stays s kept id me.0 fits p one at left (node_ahead p.memory count) slot (p.memory.nodes_to + suc count) p.memory.scx_to may
 
-      is_left : (n : ℕ) → IsOwnNode t.lay o n → p.memory.nodes_to ≤ n → HasNode left n
-      is_left n its_own more = record { from = (let e = all in omega (arith, e, more)); below = (let e = share.to_node in let b = its_own.below in omega (arith, e, b)) }
+      from_left : (n : ℕ) → p.memory.nodes_to ≤ n → left.next_node ≤ n
+      from_left n more = let e = all in omega (arith, e, more)
 
       own_between : (n : ℕ) → p.memory.nodes_to ≤ n → n < p.memory.nodes_to + count → IsOwnNode t.lay o n
       own_between n more less = record { from = (let a = share.from_node in let e = all in omega (arith, a, e, more)); below = (let b = may.own.0.below in omega (arith, b, less)) }
@@ -219,8 +219,8 @@ module _ (allows : Layout → History → ℕ → Type 0) (t : Lasting) (plantin
         over = over allows t planting s kept id me.0 fits p one may.over;
         passed = none_passed t kept.held kept.last o (history_of planting kept.rows);
         taken = λ n its_own less. share.taken_nodes n its_own (let e = all in omega (arith, e, less));
-        untaken = λ n its_own more. share.untaken_nodes n (is_left n its_own more);
-        unmentioned = λ n its_own more. share.unmentioned n (is_left n its_own more);
+        untaken = λ n its_own more. share.untaken_nodes n its_own (from_left n more);
+        unmentioned = λ n its_own more. share.unmentioned n its_own (from_left n more);
         others = λ n z. inl z;
       }
 
@@ -291,8 +291,8 @@ module _ (allows : Layout → History → ℕ → Type 0) (t : Lasting) (plantin
       share : IsShare t.lay (history_of planting kept.rows) o left left.next_node left.next_scx
       share = its_share allows t planting stays s kept id me.0 fits p one at left (scx_ahead p.memory count) slot p.memory.nodes_to (p.memory.scx_to + suc count) may
 
-      is_left : (n : ℕ) → IsOwnScx t.lay o n → p.memory.scx_to ≤ n → HasScx left n
-      is_left n its_own more = record { from = (let e = all in omega (arith, e, more)); below = (let e = share.to_scx in let b = its_own.below in omega (arith, e, b)) }
+      from_left : (n : ℕ) → p.memory.scx_to ≤ n → left.next_scx ≤ n
+      from_left n more = let e = all in omega (arith, e, more)
 
       own_between : (n : ℕ) → p.memory.scx_to ≤ n → n < p.memory.scx_to + count → IsOwnScx t.lay o n
       own_between n more less = record { from = (let a = share.from_scx in let e = all in omega (arith, a, e, more)); below = (let b = may.own.0.below in omega (arith, b, less)) }
@@ -304,7 +304,7 @@ module _ (allows : Layout → History → ℕ → Type 0) (t : Lasting) (plantin
         over = over allows t planting s kept id me.0 fits p one may.over;
         passed = none_passed t kept.held kept.last o (history_of planting kept.rows);
         taken = λ n its_own less. share.taken_scx n its_own (let e = all in omega (arith, e, less));
-        untaken = λ n its_own more. share.untaken n (is_left n its_own more);
+        untaken = λ n its_own more. share.untaken n its_own (from_left n more);
         others = λ n z. z;
       }
 
@@ -339,7 +339,7 @@ module _ (allows : Layout → History → ℕ → Type 0) (t : Lasting) (plantin
 
 -- The name behind those that are dealt, of which some may be left, with none passed over.
 module _ (allows : Layout → History → ℕ → Type 0) (t : Lasting) (planting : PlantingView) (stays : StaysUnborn t.lay) (slots id : ℕ) (me : Me ℕ SeatView) (p : SeatedPass) (one : me.0.passes ≡ p ∷ []) (at : ℕ) (left : Remaining) (slot : RecordNo) where
-  next_taken : (name : RecordNo) (nodes_to scx_to : ℕ) → MayTake t p left name slot → IsLeft left (record_at name)
+  next_taken : (name : RecordNo) (nodes_to scx_to : ℕ) → MayTake t p left name slot → IsNotBefore left (record_at name)
       → ((rows : List Row) (y : Record) → IsDealt (memory_with p.memory name slot nodes_to scx_to rows) y → (y ≡ record_at name) ⊎ IsDealt p.memory y)
       → ((rows : List Row) (y : Record) → ¬ IsDealt (memory_with p.memory name slot nodes_to scx_to rows) y → ¬ IsDealt p.memory y)
       → ((rows : List Row) → IsDealt (memory_with p.memory name slot nodes_to scx_to rows) (record_at name))
@@ -362,7 +362,7 @@ module _ (allows : Layout → History → ℕ → Type 0) (t : Lasting) (plantin
     ((kept.rows, learnt allows t planting s kept id me.0 fits p one refl), refl),
   )
 
-  pub lasting_next_node : MayTake t p left (node_ahead p.memory 0) slot → IsLeft left (record_at (node_ahead p.memory 0)) → Allows (TableLasts allows t planting) slots id me at (λ n. n) (λ n w. LearnsWith allows (memory_with_node p.memory 0 slot) me.0 w.0 × (w.1 ≡ me.1))
+  pub lasting_next_node : MayTake t p left (node_ahead p.memory 0) slot → IsNotBefore left (record_at (node_ahead p.memory 0)) → Allows (TableLasts allows t planting) slots id me at (λ n. n) (λ n w. LearnsWith allows (memory_with_node p.memory 0 slot) me.0 w.0 × (w.1 ≡ me.1))
   lasting_next_node may is_left = next_taken (node_ahead p.memory 0) (p.memory.nodes_to + 1) p.memory.scx_to may is_left dealt undealt (λ rows. omega arith)
     where
       dealt : (rows : List Row) (y : Record) → IsDealt (memory_with_node p.memory 0 slot rows) y → (y ≡ the_node (p.memory.nodes_to + 0)) ⊎ IsDealt p.memory y
@@ -377,7 +377,7 @@ module _ (allows : Layout → History → ℕ → Type 0) (t : Lasting) (plantin
       undealt rows (the_node n) d z = d (omega (arith, z))
       undealt rows (the_scx i) d z = d z
 
-  pub lasting_next_scx : MayTake t p left (scx_ahead p.memory 0) slot → IsLeft left (record_at (scx_ahead p.memory 0)) → Allows (TableLasts allows t planting) slots id me at (λ n. n) (λ n w. LearnsWith allows (memory_with_scx p.memory 0 slot) me.0 w.0 × (w.1 ≡ me.1))
+  pub lasting_next_scx : MayTake t p left (scx_ahead p.memory 0) slot → IsNotBefore left (record_at (scx_ahead p.memory 0)) → Allows (TableLasts allows t planting) slots id me at (λ n. n) (λ n w. LearnsWith allows (memory_with_scx p.memory 0 slot) me.0 w.0 × (w.1 ≡ me.1))
   lasting_next_scx may is_left = next_taken (scx_ahead p.memory 0) p.memory.nodes_to (p.memory.scx_to + 1) may is_left dealt undealt (λ rows. omega arith)
     where
       dealt : (rows : List Row) (y : Record) → IsDealt (memory_with_scx p.memory 0 slot rows) y → (y ≡ the_scx (p.memory.scx_to + 0)) ⊎ IsDealt p.memory y

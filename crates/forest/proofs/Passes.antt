@@ -26,7 +26,7 @@ begins_lawful lay = (refl, omega arith)
 
 -- a pass with its whole share is at rest at the start
 pub begins_at_rest : (lay : Layout) (o : Opening) (c : ℕ) → Lawful lay (Opened o) → IsBetweenCalls lay c (Opened o) (whole_share lay c)
-begins_at_rest lay o c lawful = record { share = whole_untouched lay o c lawful; over = λ s own d t. absurd (none_taken o s t) }
+begins_at_rest lay o c lawful = record { share = whole_untouched lay o c lawful; upper = refl; over = λ s own d t. absurd (none_taken o s t) }
 
 pub begins_sound : (allows : Layout → History → ℕ → Type 0) (lay : Layout) → IsRun allows lay (Start lay.mode)
 unfolding Shaped
@@ -67,7 +67,7 @@ called {allows} p x s number waits same first m A fills_not y =
 
 -- it is a pass again
 pub called_pass : {allows : Layout → History → ℕ → Type 0} {mode : Mode} {T : Type 0} (p : Inside T) (x : IsPass allows mode p) (s : Seat ℕ SeatView) (number : ℕ) (A : History → Type 0) → s.me.1 ≡ p.seat.me.1 → HasOnlyLoaded allows p s number A → IsPass allows mode (seated p s)
-called_pass p x s number A bare y = record { seat = y.seat; bare = bare ∙ x.bare; is_mode = x.is_mode; is_pass = x.is_pass; sound = y.goes.sound; rest = record { share = y.goes.share; over = y.goes.over }; blamed = blamed_later (pass_view p) (pass_view (seated p s)) refl refl refl y.goes.sound.lawful y.goes.since x.blamed }
+called_pass p x s number A bare y = record { seat = y.seat; bare = bare ∙ x.bare; is_mode = x.is_mode; is_pass = x.is_pass; sound = y.goes.sound; rest = record { share = y.goes.share; upper = x.rest.upper; over = y.goes.over }; blamed = blamed_later (pass_view p) (pass_view (seated p s)) refl refl refl y.goes.sound.lawful y.goes.since x.blamed }
 
 -- it has taken nothing
 pub called_nothing : {allows : Layout → History → ℕ → Type 0} {T : Type 0} (p : Inside T) (s : Seat ℕ SeatView) (number : ℕ) (A : History → Type 0) → HasOnlyLoaded allows p s number A → HasTakenNothing (pass_view p) (pass_view (seated p s))

@@ -7,7 +7,7 @@ use Rattle.histories.proofs.Lemmas.{IsIn, Logs, aborted_never_won, lawful_tail, 
 use Rattle.template.specs.Common.{AllowsAll, HasChanged, IsAmong, ListsNode, update_field_index, snap_at, nodes_of, PutIsReady, PutWaits, PutAnswers, Snap, Scx, Done, Lost, PutRun}
 use Rattle.prims.specs.Moments.{IsAsFound}
 use Rattle.prims.specs.Scx.Known.{IsEntryAt, IsDone as IsScxDone, removed_nodes, update_entry}
-use Rattle.prims.proofs.Lemmas.{removed_those, left_own_node, left_own_scx, taken_share, next_free, next_unwon, all_over, put_ready_first}
+use Rattle.prims.proofs.Lemmas.{removed_those, left_own_node, left_own_scx, same_end, taken_share, next_free, next_unwon, all_over, put_ready_first}
 use Rattle.prims.specs.declared.scx.ScxAt.TheVariants.{Start as ScxStart}
 use Rattle.prims.specs.declared.put.PutAt.TheVariants.{Start as PutStart}
 use Rattle.arena.specs.Share.{after_taking}
@@ -113,8 +113,8 @@ module _ {T : Type 0} (p : Inside T) (x : IsPass AllowsAll Records p) (some_node
   pub put_begins : (m : PutRun) → Is m → m.at ≡ PutStart → m.scx.at ≡ ScxStart → Each (CanUse (pass_view p)) snaps → HoldsForCall AllowsAll p.seat.me.0.passes (call_of p x number) (λ h. ((call_of p x number).start ≡ h) × PutIsReady AllowsAll m (call_of p x number) h None)
   put_begins m of at scx_at usable = begun_with p x number (put_ready_first p.layout p.number.0 number x.is_pass start m x.sound.lawful of.over (rw of.snaps_are (each_at (CanUse (pass_view p)) snaps usable)) at
       scx_at (rw of.record_is own_scx) (rw of.record_is x.rest.share.taken_scx) (rw of.record_is free) (rw of.fresh own_node) (rw of.fresh x.rest.share.taken_nodes)
-      (rw of.fresh (x.rest.share.unmentioned p.share.next_node record { from = omega arith; below = omega arith }))
-      (rw of.fresh (x.rest.share.untaken_nodes p.share.next_node record { from = omega arith; below = omega arith }))
+      (rw of.fresh (x.rest.share.unmentioned p.share.next_node own_node (omega arith)))
+      (rw of.fresh (x.rest.share.untaken_nodes p.share.next_node own_node (omega arith)))
       (all_over p.layout start p.number.0 p.share _ _ x.rest.share x.rest.over))
 
   -- what the pass has after the call
@@ -156,7 +156,7 @@ module _ {T : Type 0} (p : Inside T) (x : IsPass AllowsAll Records p) (some_node
     is_mode = x.is_mode;
     is_pass = x.is_pass;
     sound = y.goes.sound;
-    rest = put_rests (call_of p x number) y.run _ a (after_taking p.share) p.share.next_node p.share.next_scx snaps (put_hand y.run snaps finalize field v p.share.next_node p.share.next_scx number y.is_of) (omega arith) (omega arith) (λ e. let q = own_scx.from in omega arith) y.answers y.goes;
+    rest = put_rests (call_of p x number) y.run _ a (after_taking p.share) p.share.next_node p.share.next_scx snaps (put_hand y.run snaps finalize field v p.share.next_node p.share.next_scx number y.is_of) (omega arith) (omega arith) (λ e. let q = own_scx.from in omega arith) y.answers y.goes (same_end p.share some_node some_scx ∙ x.rest.upper);
     blamed = blamed_later (pass_view p) (pass_view (spent s)) refl refl refl y.goes.sound.lawful y.goes.since x.blamed;
   }
 

@@ -29,7 +29,7 @@ ghost use Rattle.forest.specs.LastingMemory.{record_at};
 ghost use Rattle.forest.specs.LastingNames.{MayTake, memory_with_node, memory_with_scx, node_ahead, past_nodes, past_scxs, scx_ahead};
 ghost use Rattle.forest.specs.LastingNotes.{memory_left, HasRestedSince, IsBefore, IsIn, IsUnused, memory_away, memory_done, memory_looked, memory_looked_at, memory_marked, memory_noted, memory_over, memory_polled, memory_rested, memory_unused, noted_as};
 ghost use Rattle.forest.specs.LastingRule.{LoadsWord, GoesOnWith, LearnsWith, MayStepOn, TableLasts};
-ghost use Rattle.forest.specs.LastingSlots.{WasTaken, IsLastDealt, IsLeft, memory_cleared, memory_given_back, memory_let_go};
+ghost use Rattle.forest.specs.LastingSlots.{WasTaken, IsLastDealt, IsNotBefore, memory_cleared, memory_given_back, memory_let_go};
 ghost use Rattle.forest.specs.LastingOpening.{OpensLasting, first_view};
 ghost use Rattle.forest.specs.Passes.{Each};
 ghost use Rattle.forest.specs.TableRule.{Made, first_of_seat, history_of, joined_seat, past_of, rest_of_seat, seat_view};
@@ -136,7 +136,7 @@ pub fn slots_last<S: Shape>()
         → p.number.0 < t.lay.passes → IsIn name p.memory.holds
         → IsLastDealt p.memory (record_at name)
         → IsShare p.layout (past_of p []) p.number.0 left left.next_node left.next_scx
-        → IsLeft left (record_at name)
+        → IsNotBefore left (record_at name)
         → Allows (TableLasts S.allows t planting) slots id me at (λ n. n)
         (λ n w. LearnsWith S.allows (λ rows. memory_given_back t p.memory name) me.0 w.0
         × (w.1 ≡ me.1)) }
@@ -162,14 +162,14 @@ pub fn names_last<S: Shape>()
         (me : Me ℕ SeatView) (p : SeatedPass) (at : ℕ) (left : Remaining)
         (slot : RecordNo) → me.0.passes ≡ p ∷ []
         → MayTake t p left (node_ahead p.memory 0) slot
-        → IsLeft left (record_at (node_ahead p.memory 0))
+        → IsNotBefore left (record_at (node_ahead p.memory 0))
         → Allows (TableLasts S.allows t planting) slots id me at (λ n. n)
         (λ n w. LearnsWith S.allows (memory_with_node p.memory 0 slot) me.0 w.0 × (w.1 ≡ me.1)) }
     ensures next_scx { (t : Lasting) (planting : PlantingView) (slots id : ℕ)
         (me : Me ℕ SeatView) (p : SeatedPass) (at : ℕ) (left : Remaining)
         (slot : RecordNo) → me.0.passes ≡ p ∷ []
         → MayTake t p left (scx_ahead p.memory 0) slot
-        → IsLeft left (record_at (scx_ahead p.memory 0))
+        → IsNotBefore left (record_at (scx_ahead p.memory 0))
         → Allows (TableLasts S.allows t planting) slots id me at (λ n. n)
         (λ n w. LearnsWith S.allows (memory_with_scx p.memory 0 slot) me.0 w.0 × (w.1 ≡ me.1)) }
     ensures nodes { (t : Lasting) (planting : PlantingView)
