@@ -184,7 +184,7 @@ module _ (allows : Layout → History → ℕ → Type 0) (t : Lasting) (plantin
 
       go : Dec (found ≡ s.0) → (w : SeatView) × (a : Act ℕ) × Valid st.homes me.1 a × TableLasts allows t planting (stepped st at found id me.1 w a) × (LearnsWith allows (λ rows. memory_looked_at p.memory s j found) me.0 w × (carried_after me.1 a ≡ me.1))
       go (yes e) = (
-        seat_view (aware allows t planting st kept id me.0 fits p one (p.memory) ∷ []),
+        seat_view (aware allows t planting st kept id me.0 fits p one p.memory ∷ []),
         keeps,
         tt,
         noted allows t planting stays st kept id me.0 fits p one at p.memory refl refl refl (recalls st kept fits).names,

@@ -147,7 +147,7 @@ module _ (allows : Layout → History → ℕ → Type 0) (t : Lasting) (plantin
 
       go : Dec (found ≡ 2 * seen) → (w : SeatView) × (a : Act ℕ) × Valid s.homes me.1 a × TableLasts allows t planting (stepped s at found id me.1 w a) × (LearnsWith allows (λ rows. memory_polled p.memory poll seen found) me.0 w × (carried_after me.1 a ≡ me.1))
       go (yes e) = (
-        seat_view (aware allows t planting s kept id me.0 fits p one (p.memory) ∷ []),
+        seat_view (aware allows t planting s kept id me.0 fits p one p.memory ∷ []),
         keeps,
         tt,
         noted allows t planting stays s kept id me.0 fits p one at p.memory refl refl refl recalls.names,

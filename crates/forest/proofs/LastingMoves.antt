@@ -114,6 +114,5 @@ module _ (allows : Layout → History → ℕ → Type 0) (t : Lasting) (plantin
             is = refl;
           },
           refl,
-          refl,
         ),
       )

@@ -32,10 +32,6 @@ use Rattle.forest.proofs.LastingGhosts.{in_each, noted}
 use Rattle.forest.proofs.LastingSeats.{aware, behind_known, learnt, now, own, well}
 use Rattle.forest.proofs.LastingSlots.{taken_since}
 
--- the planting of the seat's pass
-planted : (allows : Layout → History → ℕ → Type 0) (t : Lasting) (planting : PlantingView) (s : State ℕ SeatView) (kept : TableLasts allows t planting s) (id : ℕ) (v : SeatView) (fits : get_elem? s.views id ≡ some v) (p : SeatedPass) (one : v.passes ≡ p ∷ []) (q : SeatedPass) → v.passes ≡ q ∷ [] → planting ≡ q.planting
-planted allows t planting s kept id v fits p one q is = sym (ap (λ (g : Plot). g.planting) (own allows t planting s kept id v fits q is).1)
-
 -- what was of no use is out of reach, and gone
 unused_out : (lay : Layout) (h : History) (last : ℕ → History) (o : ℕ) (x : Record) → o < lay.passes → IsUnused lay o x (last o) → IsOutOfReach lay h last x × IsGoneRecord lay h last x
 unused_out lay h last o (the_node n) i x = (unborn_out lay h last o n i x, inr (inr (o, i, x)))
@@ -72,7 +68,7 @@ module _ (allows : Layout → History → ℕ → Type 0) (t : Lasting) (plantin
 
       go : Dec (found ≡ 0) → (w : SeatView) × (a : Act ℕ) × Valid s.homes me.1 a × TableLasts allows t planting (stepped s at found id me.1 w a) × (LearnsWith allows (memory_marked p.memory (Node n) found) me.0 w × (carried_after me.1 a ≡ me.1))
       go (yes e) = (
-        seat_view (aware allows t planting s kept id me.0 fits p one (p.memory) ∷ []),
+        seat_view (aware allows t planting s kept id me.0 fits p one p.memory ∷ []),
         keeps,
         tt,
         noted allows t planting stays s kept id me.0 fits p one at p.memory refl refl refl recalls.names,
@@ -142,22 +138,21 @@ module _ (allows : Layout → History → ℕ → Type 0) (t : Lasting) (plantin
       )
 
   -- a load of a word of a name that an own slot holds
-  pub lasting_loads : (name : RecordNo) (u : Word) → IsIn name p.memory.holds → record_of u ≡ record_at name → IsWord t.lay u → Allows (TableLasts allows t planting) slots id me (table_place t u) (λ v. v) (λ v w. LoadsWord allows p.memory u v me.0 w.0 × (w.1 ≡ me.1))
+  pub lasting_loads : (name : RecordNo) (u : Word) → IsIn name p.memory.holds → record_of u ≡ record_at name → IsWord t.lay u → Allows (TableLasts allows t planting) slots id me (table_place t u) (λ v. v) (λ v w. LoadsWord allows p u v me.0 w.0 × (w.1 ≡ me.1))
   lasting_loads name u holds of_name inside s kept sized fits small =
       let before : Present = now allows t planting s kept id me.0 fits p one in
       let recalls : RemembersWell t planting before p.number.0 p.memory = well allows t planting s kept id me.0 fits p one in
       let mine : IsHeldName t p.number.0 before name = in_each (IsHeldName t p.number.0 before) name p.memory.holds holds recalls.names.holds in
       let shown : slice_index s.words (table_place t u) ≡ value (history_of planting kept.rows) u = kept.window.shows u inside (subst (IsHeld t kept.held) (sym of_name) mine.1) in (
-        seat_view (aware allows t planting s kept id me.0 fits p one (p.memory) ∷ []),
+        seat_view (aware allows t planting s kept id me.0 fits p one p.memory ∷ []),
         keeps,
         tt,
         noted allows t planting stays s kept id me.0 fits p one (table_place t u) p.memory refl refl refl recalls.names,
         (
           record {
             rows = kept.rows;
-            learnt = learnt allows t planting s kept id me.0 fits p one;
-            memory = refl;
-            value = λ q is. subst (λ (g : PlantingView). value (history_of g kept.rows) u ≡ slice_index s.words (table_place t u)) (planted allows t planting s kept id me.0 fits p one q is) (sym shown);
+            learnt = learnt allows t planting s kept id me.0 fits p one refl;
+            value = subst (λ (g : PlantingView). value (history_of g kept.rows) u ≡ slice_index s.words (table_place t u)) (sym (ap (λ (g : Plot). g.planting) (own allows t planting s kept id me.0 fits p one).1)) (sym shown);
           },
           refl,
         ),
