@@ -13,10 +13,9 @@ use Rattle.ordered_map.specs.Runs.{IsMapRun}
 use Rattle.ordered_map.proofs.MapLemmas.{run_since}
 use Rattle.prims.specs.Moments.{AreFinished}
 use Rattle.touching.specs.Left.{HasLeft, IsNamedByLeft}
-use Rattle.touching.proofs.Lemmas.{taken_scx_since, was_since}
+use Rattle.touching.proofs.Lemmas.{reached_stood, taken_scx_since, was_since}
 use Rattle.resting.specs.Dead.{IsLetGoScx, WasDoneWith}
 use Rattle.resting.specs.Records.{the_node}
-use Rattle.resting.proofs.Lemmas.{reached_stood}
 use Rattle.slots.specs.Held.{IsHeld}
 use Rattle.slots.specs.Lasting.{Lasting, slot_of, table_place}
 use Rattle.slots.proofs.Lemmas.{name_record, untaken_zero}

@@ -13,7 +13,7 @@ use Rattle.resting.specs.Rests.{IsRowSince}
 use Rattle.slots.specs.Held.{IsHeld}
 use Rattle.slots.specs.Lasting.{IsOwnRecord, IsUntaken, Lasting, table_place}
 use Rattle.slots.specs.Window.{IsHeldStep, IsWindow}
-use Rattle.slots.proofs.Lemmas.{counts_rows, counts_stores, empty_apart, seen_rows, steps}
+use Rattle.slots.proofs.Lemmas.{counts_rows, counts_stores, empty_apart, seen_rows, steps, untaken_fills}
 use Rattle.forest.specs.TableRule.{history_of, Made, Owns, past_of, row, seat_view, seated_pass}
 use Rattle.forest.specs.LastingMemory.{AreHeldOrGone, IsGone, Present, RememberWell, RemembersWell, present}
 use Rattle.forest.specs.LastingRule.{MayStepOn, TableLasts, plot_in}
@@ -62,7 +62,7 @@ module _ (allows : Layout → History → ℕ → Type 0) (t : Lasting) (plantin
       let since : IsRowSince t.lay p.number.0 (kept.last p.number.0) h r = inl record { call = call; layout = may.of_call.layout ∙ lay_is; pass = may.of_call.pass; since = start; step = step } in
       let dealt : IsUntaken t.lay h (record_of said.step.word) → IsOwnRecord t.lay p.number.0 (record_of said.step.word) → IsHeld t kept.held (record_of said.step.word) =
       λ free its_own. well.names.dealt (record_of said.step.word) its_own
-      (may.dealt (may.fresh others own.2.2 before (subst (λ l. IsUntaken l (past_of p others) (record_of said.step.word)) (sym lay_is) (subst (λ k. IsUntaken t.lay k (record_of said.step.word)) (sym e) free)) (subst (λ l. IsOwnRecord l p.number.0 (record_of said.step.word)) (sym lay_is) its_own)))
+      (may.dealt (untaken_fills call h r step (subst (λ l. IsUntaken l h (record_of said.step.word)) (sym (may.of_call.layout ∙ lay_is)) free)))
       free in
       let made : IsHeldStep t s.words h kept.last kept.held r = steps t s.words h kept.last kept.held kept.window r (maps (r ⊳ h) sound) since dealt in
       let found : slice_index s.words at ≡ value h said.step.word = ap (slice_index s.words) is ∙ made.found in

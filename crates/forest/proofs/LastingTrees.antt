@@ -8,12 +8,11 @@ use Rattle.planting.specs.Plantings.{PlantingView}
 use Rattle.ordered_map.specs.Paths.{WasInTree}
 use Rattle.ordered_map.specs.Runs.{IsMapRun}
 use Rattle.touching.specs.Kinds.{IsInTree}
-use Rattle.touching.proofs.Lemmas.{there_not_final}
+use Rattle.touching.proofs.Lemmas.{never_stood, there_not_final}
 use Rattle.resting.specs.Records.{the_node, record_of}
 use Rattle.resting.specs.Rests.{HaveRestedAt}
 use Rattle.slots.specs.Held.{IsHeld}
 use Rattle.slots.specs.Lasting.{Lasting, table_place}
-use Rattle.slots.proofs.Lemmas.{never_stood}
 use Rattle.forest.specs.TableRule.{history_of}
 use Rattle.forest.specs.LastingMemory.{IsGone}
 use Rattle.forest.specs.LastingRule.{TableLasts}

@@ -9,7 +9,7 @@ use Rattle.planting.specs.Plantings.{PlantingView}
 use Rattle.resting.specs.Records.{record_of}
 use Rattle.slots.specs.Counts.{CountsRests, Tally}
 use Rattle.slots.specs.Held.{Held}
-use Rattle.slots.specs.Lasting.{IsOwnRecord, IsUntaken, Lasting}
+use Rattle.slots.specs.Lasting.{Lasting}
 use Rattle.slots.specs.Window.{IsWindow}
 use Rattle.forest.specs.CallSteps.{IsOfMapCall}
 use Rattle.forest.specs.TableRule.{ByOthers, MayStep, Owns, history_of, past_of, seated_pass}
@@ -40,23 +40,17 @@ pub record TableLasts (allows : Layout → History → ℕ → Type 0) (t : Last
   pub passes : (id : ℕ) (v : SeatView) → get_elem? s.views id ≡ some v → Owns (plot_in t planting) rows owner id v.passes
   pub memories : (id : ℕ) (v : SeatView) → get_elem? s.views id ≡ some v → RememberWell t planting (present s.words (history_of planting rows) last held tally) v.passes
 
--- What the step comes to of the pass's own that nobody has taken, it fills, whatever rows of others
--- come before.
-abbrev pub FillsFresh : (Layout → History → ℕ → Type 0) → CallStep → SeatedPass → Type 0
-FillsFresh allows said p = (others : List Row) → ByOthers p.number.0 others → IsRun allows p.layout (past_of p others) → IsUntaken p.layout (past_of p others) (record_of said.step.word) → IsOwnRecord p.layout p.number.0 (record_of said.step.word) → said.step.kind ≡ Fill
-
 -- what the step fills is dealt
 abbrev pub FillsDealt : CallStep → PassMemory → Type 0
 FillsDealt said m = said.step.kind ≡ Fill → IsDealt m (record_of said.step.word)
 
 -- The pass may make the step: it is there, and the step is lawful, and one of a map's call that
--- began since its last rest; and of names that nobody has taken it comes only to dealt ones, to fill
--- them.
+-- began since its last rest; and what it fills is dealt. So of names that nobody has taken it comes
+-- only to dealt ones: a call comes to such a name only to fill it.
 pub record MayStepOn (allows : Layout → History → ℕ → Type 0) (said : CallStep) (p : SeatedPass) : Type 0 where
   pub may : MayStep allows said p
   pub of_call : IsOfMapCall allows said p
   pub there : p.memory.away ≡ false
-  pub fresh : FillsFresh allows said p
   pub dealt : FillsDealt said p.memory
 
 -- The only pass of a seat has come to know the whole run, with which others have gone on, and
