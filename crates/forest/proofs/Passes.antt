@@ -1,7 +1,7 @@
 -- What a call leaves of a pass.
-use Rattle.std.proofs.Common.{◌≡◌, ◌≢◌, ℕ, ◌+◌, ◌≤◌, List, [], inl, refl, sym, ◌∙◌, ap, subst, arith}
+use Rattle.std.proofs.Common.{◌≡◌, ◌≢◌, ℕ, ◌+◌, ◌-◌, ◌≤◌, List, [], inl, refl, sym, ◌∙◌, ap, subst, arith}
 use Rattle.atomic_table.specs.declared.shared.Seat.{Seat}
-use Rattle.histories.specs.Common.{Layout, Step, Fill, History, Opening, Opened, Start, Lawful, Call, IsRun, Shaped, Mode}
+use Rattle.histories.specs.Common.{Layout, Step, Fill, Remaining, first_scx, History, Opening, Opened, Start, Lawful, Call, IsRun, Shaped, Mode}
 use Rattle.arena.specs.Share.{whole_share}
 use Rattle.arena.proofs.Lemmas.{ends_self}
 use Rattle.prims.specs.declared.snap.Snap.{Snap}
@@ -13,7 +13,7 @@ use Rattle.forest.specs.Traces.{IsSeated, Trace, HoldsForCall, known_of, plantin
 use Rattle.forest.specs.Shares.{IsBetweenCalls}
 use Rattle.forest.specs.Passes.{PassView, Ground, IsOf, AreOfCall, CanUse, HasGoneOn, HasTakenNothing, IsLaterView, run_of}
 use Rattle.forest.specs.PassInvariant.{pass_view, IsPass}
-use Rattle.prims.proofs.Lemmas.{whole_untouched, none_taken, next_unwon, usable_since}
+use Rattle.prims.proofs.Lemmas.{upper_end, whole_untouched, none_taken, next_unwon, usable_since}
 use Rattle.forest.proofs.Frames.{CarriesOn}
 use Rattle.forest.proofs.Calls.{quiet_goes}
 use Rattle.forest.proofs.Advances.{call_back}
@@ -27,6 +27,10 @@ begins_lawful lay = (refl, omega arith)
 -- a pass with its whole share is at rest at the start
 pub begins_at_rest : (lay : Layout) (o : Opening) (c : ℕ) → Lawful lay (Opened o) → IsBetweenCalls lay c (Opened o) (whole_share lay c)
 begins_at_rest lay o c lawful = record { share = whole_untouched lay o c lawful; upper = refl; over = λ s own d t. absurd (none_taken o s t) }
+
+-- what is gone of its share is what it has taken
+pub taken_is : (lay : Layout) (c : ℕ) (h : History) (left : Remaining) → IsBetweenCalls lay c h left → lay.scx - left.scx ≡ left.next_scx - first_scx lay c
+taken_is lay c h left x = let a = x.share.from_scx in let b = (upper_end lay c left x.upper).1 in omega (arith, a, b)
 
 pub begins_sound : (allows : Layout → History → ℕ → Type 0) (lay : Layout) → IsRun allows lay (Start lay.mode)
 unfolding Shaped
