@@ -74,7 +74,7 @@ fn fill_word<S: Shape, M: CallMachine<S>, E: Edit + Copy>(
     part: NodeWord,
 )
     requires table { IsAt hand seat.old }
-    requires fresh { IsFreshPiece hand.layout.now E.means run.now node.found.now
+    requires fresh { IsFreshPiece (slots hand) E.means run.now node.found.now
         node.nth node.start node.piece.now }
     requires fills { StandsToFill S.Shape M.Machine E.means hand node.found.now
         seat.old run.now node.nth (Some part) }
@@ -124,7 +124,7 @@ fn fill_high<S: Shape, M: CallMachine<S>, E: Edit + Copy>(
     high: u64,
 )
     requires table { IsAt hand seat.old }
-    requires fresh { IsFreshPiece hand.layout.now E.means run.now node.found.now
+    requires fresh { IsFreshPiece (slots hand) E.means run.now node.found.now
         node.nth node.start node.piece.now }
     requires value { high ≡ word_of node.piece.now (NodeWord.Settled (SettledPart.High slot)) }
     requires fills { StandsToFill S.Shape M.Machine E.means hand node.found.now seat.old run.now
@@ -280,7 +280,7 @@ fn fill_leaf<S: Shape, M: CallMachine<S>, E: Edit + Copy>(
     node: FreshNode<'_>,
 )
     requires table { IsAt hand seat.old }
-    requires fresh { IsFreshPiece hand.layout.now E.means run.now node.found.now
+    requires fresh { IsFreshPiece (slots hand) E.means run.now node.found.now
         node.nth node.start node.piece.now }
     requires fills { StandsToFill S.Shape M.Machine E.means hand node.found.now
         seat.old run.now node.nth (Some (NodeWord.Settled SettledPart.Head)) }
@@ -307,7 +307,7 @@ fn fill_fork<S: Shape, M: CallMachine<S>, E: Edit + Copy>(
     node: FreshNode<'_>,
 )
     requires table { IsAt hand seat.old }
-    requires fresh { IsFreshPiece hand.layout.now E.means run.now node.found.now
+    requires fresh { IsFreshPiece (slots hand) E.means run.now node.found.now
         node.nth node.start node.piece.now }
     requires fills { StandsToFill S.Shape M.Machine E.means hand node.found.now
         seat.old run.now node.nth (Some (NodeWord.Settled SettledPart.Head)) }
@@ -333,7 +333,7 @@ fn fill_words<S: Shape, M: CallMachine<S>, E: Edit + Copy>(
     node: FreshNode<'_>,
 )
     requires table { IsAt hand seat.old }
-    requires fresh { IsFreshPiece hand.layout.now E.means run.now node.found.now
+    requires fresh { IsFreshPiece (slots hand) E.means run.now node.found.now
         node.nth node.start node.piece.now }
     requires fills { StandsToFill S.Shape M.Machine E.means hand node.found.now
         seat.old run.now node.nth (Some (NodeWord.Settled SettledPart.Head)) }
