@@ -3,7 +3,7 @@ use Rattle.std.specs.Prelude.{Bool}
 use Rattle.dict.specs.Laws.Begins.{dict_mode}
 use Rattle.template.specs.Balance.{map_mode}
 use Rattle.dict.specs.Calls.{trie_in}
-use Rattle.std.proofs.Common.{◌≡◌, ◌∙◌, arith, ℕ, suc, ◌+◌, ◌*◌, ◌<◌, ◌≤◌, ◌∷◌, List, Option, Some, None, refl, ap, sym, subst}
+use Rattle.std.proofs.Common.{◌≡◌, ◌∙◌, arith, ℕ, ◌+◌, ◌*◌, ◌<◌, ◌≤◌, ◌∷◌, List, Option, Some, None, refl, ap, sym, subst}
 use Rattle.atomic_table.specs.declared.shared.Seat.{Seat}
 use Rattle.histories.specs.Common.{Layout, History, Extends, Remaining, IsOwnNode, IsOwnScx}
 use Rattle.template.specs.Common.{MapCall, Edit, Get, Range, Neighbour, MapReply, IsMapRun, IsShare, most_nodes, most_scx, tries_since, told_of, Reply}

@@ -1,23 +1,24 @@
 -- What a call of `scx` says.
 use Rattle.std.proofs.Common.{◌≡◌, ◌<◌, ◌≤◌, ◌+◌, ◌⊎◌, ◌↔◌, ℕ, inl, inr, Bool, true, false, cond, eqb, List, [], ◌∷◌, length, None, refl, sym, ◌∙◌, ap, subst, arith}
 use Rattle.atomic_table.specs.declared.shared.Seat.{Seat}
-use Rattle.histories.specs.Common.{Layout, NodeNo, Side, state, value, History, Opened, ◌⊳◌, Extends, IsOwnNode, IsOwnScx, IsTakenScx, Lawful, HasWon, Entry, log, has, IsEntered, Freeze, Records}
+use Rattle.histories.specs.Common.{Layout, NodeNo, Side, state, value, History, Opened, ◌⊳◌, Extends, IsOwnNode, IsOwnScx, IsTakenScx, Lawful, HasWon, Entry, log, has, IsEntered, Freeze, Records, Resource, Nodes}
 use Rattle.arena.specs.Log.{AreOnce}
 use Rattle.histories.proofs.Lemmas.{IsIn, Logs, aborted_never_won, lawful_tail, logs, newest, older, once, same as log_same, wins as log_wins}
 use Rattle.template.specs.Common.{AllowsAll, HasChanged, IsAmong, ListsNode, update_field_index, snap_at, nodes_of, PutIsReady, PutWaits, PutAnswers, Snap, Scx, Done, Lost, PutRun}
 use Rattle.prims.specs.Moments.{IsAsFound}
 use Rattle.prims.specs.Scx.Known.{IsEntryAt, IsDone as IsScxDone, removed_nodes, update_entry}
-use Rattle.prims.proofs.Lemmas.{removed_those, left_own_node, left_own_scx, same_end, taken_share, next_free, next_unwon, all_over, put_ready_first}
+use Rattle.prims.proofs.Lemmas.{removed_those, left_own_node, left_own_scx, same_end, taken_share, upper_end, next_free, next_unwon, all_over, put_ready_first}
 use Rattle.prims.specs.declared.scx.ScxAt.TheVariants.{Start as ScxStart}
 use Rattle.prims.specs.declared.put.PutAt.TheVariants.{Start as PutStart}
-use Rattle.arena.specs.Share.{after_taking}
+use Rattle.arena.specs.Share.{after_taking, IsFullOf}
+use Rattle.arena.specs.declared.fault.Resource.TheVariants.{Scx as ScxRecords}
 use Rattle.forest.specs.declared.view.SeatView.{SeatView}
 use Rattle.forest.specs.declared.pass.Pass.TheInside.{Inside}
 use Rattle.forest.specs.TableRule.{history_of}
 use Rattle.forest.specs.Traces.{IsSeated, Trace, HoldsForCall, seat_steps, run_at}
-use Rattle.forest.specs.Shares.{entries_of}
+use Rattle.forest.specs.Shares.{IsBetweenCalls, entries_of}
 use Rattle.forest.specs.Puts.{IsPutOver}
-use Rattle.forest.specs.Passes.{AreOfCall, HasGoneOn, IsLaterView, CanUse, HasLeftAlone, Each, ScxSays, done_of, taken_of}
+use Rattle.forest.specs.Passes.{PassView, AreOfCall, HasGoneOn, IsAllTaken, IsLaterView, CanUse, HasLeftAlone, Each, ScxSays, done_of, run_of, taken_of}
 use Rattle.forest.specs.PassInvariant.{pass_view, IsPass}
 use Rattle.forest.proofs.Frames.{CarriesOn}
 use Rattle.forest.proofs.Calls.{HasHand, course_keeps, put_goes, put_rests}
@@ -88,6 +89,11 @@ put_same old now snaps finalize field v node scx number s x = record {
   side = rw s.1 x.side;
   is_value = s.3 ∙ x.is_value;
 }
+
+-- where none of its names is left, all of them are taken
+pub all_taken : (p : PassView) (what : Resource) (k : ℕ) → IsBetweenCalls p.layout p.number (run_of p) p.share → IsFullOf p.share what k → IsAllTaken p what
+all_taken p Nodes k x full n own = x.share.taken_nodes n own (let e = (upper_end p.layout p.number p.share x.upper).0 in let z = full.0 in let b = own.below in omega (arith, e, z, b))
+all_taken p ScxRecords k x full s own = x.share.taken_scx s own (let e = (upper_end p.layout p.number p.share x.upper).1 in let z = full.1 in let b = own.below in omega (arith, e, z, b))
 
 -- it has the next records of the pass's share, and the snapshots, in hand
 put_hand : (m : PutRun) (snaps : List Snap) (finalize : List NodeNo) (field : ℕ × Side) (v node scx number : ℕ) → IsPutOver m snaps finalize field v node scx number → HasHand m node scx snaps
