@@ -145,11 +145,11 @@ map_starts v began c m request sound map r u few asks made is = record {
     mode : v.layout.mode ≡ map_mode (trie_in m.run)
     mode = r.stands.trie map ∙ ap map_mode (sym made.trie)
 
-    upper : IsUpperEnd v.layout c.pass.0 (share_of m.run)
-    upper = subst (IsUpperEnd v.layout c.pass.0) has r.holds.upper
-
     has : held c ≡ share_of m.run
     has = ap (λ (o : Option Remaining). unwrap_or o record { next_node = 0; nodes = 0; next_scx = 0; scx = 0 }) (sym made.share)
+
+    upper : IsUpperEnd v.layout c.pass.0 (share_of m.run)
+    upper = subst (IsUpperEnd v.layout c.pass.0) has r.holds.upper
 
 -- a machine of a command asks for a step first
 pub asks_first : (command : Command) (number : ℕ) (run : Run) (then : Option SetField) → IsMachineOf command number run then → RunAsksFirst run
