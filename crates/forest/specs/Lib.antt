@@ -22,7 +22,6 @@ pub mod Inside
 pub mod Hosts
 pub mod TableRule
 pub mod Seats
-pub mod Slotted
 pub mod Leads
 pub mod InnerSteps
 pub mod JoinedSeats
