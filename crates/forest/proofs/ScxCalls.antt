@@ -92,8 +92,8 @@ put_same old now snaps finalize field v node scx number s x = record {
 
 -- where none of its names is left, all of them are taken
 pub all_taken : (p : PassView) (what : Resource) (k : ℕ) → IsBetweenCalls p.layout p.number (run_of p) p.share → IsFullOf p.share what k → IsAllTaken p what
-all_taken p Nodes k x full n own = x.share.taken_nodes n own (let e = (upper_end p.layout p.number p.share x.upper).0 in let z = full.0 in let b = own.below in omega (arith, e, z, b))
-all_taken p ScxRecords k x full s own = x.share.taken_scx s own (let e = (upper_end p.layout p.number p.share x.upper).1 in let z = full.1 in let b = own.below in omega (arith, e, z, b))
+all_taken p Nodes k x full = λ n own. x.share.taken_nodes n own (let e = (upper_end p.layout p.number p.share x.upper).0 in let z = full.0 in let b = own.below in omega (arith, e, z, b))
+all_taken p ScxRecords k x full = λ s own. x.share.taken_scx s own (let e = (upper_end p.layout p.number p.share x.upper).1 in let z = full.1 in let b = own.below in omega (arith, e, z, b))
 
 -- it has the next records of the pass's share, and the snapshots, in hand
 put_hand : (m : PutRun) (snaps : List Snap) (finalize : List NodeNo) (field : ℕ × Side) (v node scx number : ℕ) → IsPutOver m snaps finalize field v node scx number → HasHand m node scx snaps
