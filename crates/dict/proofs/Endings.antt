@@ -12,6 +12,7 @@ use Rattle.template.specs.Common.{MapCall, MapEdit, Edit, Get, OneValue, edit_ke
 use Rattle.template.specs.Common.{HasLostTriesTo, asked_key, FoundBy, HasTriedAtMost, HasTriedAllBut, Goal, Key as ToKey, End, Rule, most_nodes, nodes_in_try}
 use Rattle.ordered_map.proofs.MapLemmas.{run_since, run_spells}
 use Rattle.template.proofs.Lemmas.{tried_few}
+use Rattle.prims.specs.Shares.{share_end}
 use Rattle.template.specs.declared.walk.Found.{Found}
 use Rattle.template.specs.declared.walk.Way.{Way}
 use Rattle.tree.specs.declared.key_edit.KeyEdit.{KeyEdit}
@@ -159,14 +160,15 @@ module _ (tries : ℕ) (c : Call) (h : History) where
 
 -- what a read has taken is nothing
 pub read_spent : (c : Call) (h : History) (call : MapCall) (tries : ℕ) (share : Remaining) → RestsWith c c.start share → HasTriedAtMost c.layout c.pass h c.start (most_tries call tries) → HasSpent c h call tries share
-read_spent c h call tries share x tried = record { tried = tried; left = share; first = x; nodes = omega arith; scx = omega arith; each = omega arith }
+read_spent c h call tries share x tried = record { tried = tried; left = share; first = x; nodes = omega arith; scx = omega arith; each = omega arith; end = refl }
 
 -- what an edit has taken by now
-pub edit_spends : (c : Call) (most : ℕ) (old now : Remaining) (tries nodes nodes_then scx scx_then : ℕ) → HasSpentSo c most old tries nodes scx → Spends most old now nodes nodes_then scx scx_then → HasSpentSo c most now tries nodes_then scx_then
-edit_spends c most old now tries nodes nodes_then scx scx_then x y = record {
+pub edit_spends : (c : Call) (most : ℕ) (old now : Remaining) (tries nodes nodes_then scx scx_then : ℕ) → HasSpentSo c most old tries nodes scx → Spends most old now nodes nodes_then scx scx_then → share_end now ≡ share_end old → HasSpentSo c most now tries nodes_then scx_then
+edit_spends c most old now tries nodes nodes_then scx scx_then x y end = record {
   left = x.left;
   first = x.first;
   spends = (let a = x.spends.0 in let b = y.0 in omega (arith, a, b), let a = x.spends.1 in let b = y.1 in omega (arith, a, b), let a = x.spends.2 in let b = y.2 in omega (arith, a, b));
+  end = end ∙ x.end;
 }
 
 -- what `limit` tries may take less what the `left` ones may is at most what the begun ones may
@@ -186,4 +188,5 @@ edit_spent c h goal rule tries left share x tried = record {
   nodes = by_begun (nodes_in_try rule) x.left.nodes share.nodes _ _ left tries tried.all x.spends.0;
   scx = let all = tried.all in let s = x.spends.1 in omega (arith, all, s);
   each = let s = x.spends.2 in omega (arith, s);
+  end = x.end;
 }

@@ -6,6 +6,7 @@ use Rattle.order.specs.declared.refused.Refused.{Refused}
 use Rattle.order.specs.declared.run.ReadRun.{ReadRun}
 use Rattle.template.specs.Common.{Get as GetOf, TreeAllows, HasTriedAtMost, HasTriedAllBut, Rule, tries_begun, Key as ToKey, FoundBy, WalkIsReady, IsPastRoot, WalkFits, nodes_in_try}
 use Rattle.template.specs.Walk.Steps.{steps_left}
+use Rattle.prims.specs.Shares.{share_end}
 use Rattle.tree.specs.declared.key_edit.KeyEdit.{KeyEdit}
 use Rattle.template.specs.declared.walk.Found.{Found}
 use Rattle.template.specs.declared.walk.WalkAt.{WalkAt}
@@ -27,13 +28,13 @@ use Rattle.dict.proofs.Endings.{edit_says, get_says, read_says, read_spent, edit
 
 module _ (tries : ℕ) (c : Call) where
   -- an edit that continues is the same
-  pub edit_goes : (old now : UpdateRun (KeyEdit GoalBy Rule) UpdateAt) → Goes (Update old) tries c → now.edit ≡ old.edit → now.call ≡ old.call → now.limit ≡ old.limit → Spends (nodes_in_try now.edit.rule) old.share now.share (node_tries old old.at) (node_tries now now.at) (scx_tries old old.at) (scx_tries now now.at) → Goes (Update now) tries c
-  edit_goes old now goes edit call limit spends = record {
+  pub edit_goes : (old now : UpdateRun (KeyEdit GoalBy Rule) UpdateAt) → Goes (Update old) tries c → now.edit ≡ old.edit → now.call ≡ old.call → now.limit ≡ old.limit → share_end now.share ≡ share_end old.share → Spends (nodes_in_try now.edit.rule) old.share now.share (node_tries old old.at) (node_tries now now.at) (scx_tries old old.at) (scx_tries now now.at) → Goes (Update now) tries c
+  edit_goes old now goes edit call limit end spends = record {
     mode = rw edit goes.mode;
     small = rw edit goes.small;
     number = call ∙ goes.number;
     limit = limit ∙ goes.limit;
-    spent = rw edit (edit_spends c (nodes_in_try old.edit.rule) old.share now.share tries (node_tries old old.at) (node_tries now now.at) (scx_tries old old.at) (scx_tries now now.at) goes.spent (rw edit at spends));
+    spent = rw edit (edit_spends c (nodes_in_try old.edit.rule) old.share now.share tries (node_tries old old.at) (node_tries now now.at) (scx_tries old old.at) (scx_tries now now.at) goes.spent (rw edit at spends) end);
   }
 
 -- The tries of a get
@@ -58,11 +59,11 @@ stands_once c h m now (Some v) n s run ready i way nearer = once_past now.at n s
 -- Their answers
 
 module _ (tries : ℕ) (c : Call) (h : History) where
-  pub edit_ends : (old now : UpdateRun (KeyEdit GoalBy Rule) UpdateAt) (a : Updated) → IsRun TreeAllows c.layout h → Goes (Update old) tries c → now.edit ≡ old.edit → now.call ≡ old.call → now.limit ≡ old.limit → Spends (nodes_in_try now.edit.rule) old.share now.share (node_tries old old.at) now.tries (scx_tries old old.at) now.tries → UpdateAnswers edit_means now c h a → InnerAnswers tries (Update now) c h (edit_reply now.edit.goal.goal a)
-  edit_ends old now a run goes edit call limit spends x = record {
+  pub edit_ends : (old now : UpdateRun (KeyEdit GoalBy Rule) UpdateAt) (a : Updated) → IsRun TreeAllows c.layout h → Goes (Update old) tries c → now.edit ≡ old.edit → now.call ≡ old.call → now.limit ≡ old.limit → share_end now.share ≡ share_end old.share → Spends (nodes_in_try now.edit.rule) old.share now.share (node_tries old old.at) now.tries (scx_tries old old.at) now.tries → UpdateAnswers edit_means now c h a → InnerAnswers tries (Update now) c h (edit_reply now.edit.goal.goal a)
+  edit_ends old now a run goes edit call limit end spends x = record {
     rests = x.0;
     spent = edit_spent c h now.edit.goal.goal now.edit.rule tries now.tries now.share
-        (rw edit (edit_spends c (nodes_in_try old.edit.rule) old.share now.share tries (node_tries old old.at) now.tries (scx_tries old old.at) now.tries goes.spent (rw edit at spends)))
+        (rw edit (edit_spends c (nodes_in_try old.edit.rule) old.share now.share tries (node_tries old old.at) now.tries (scx_tries old old.at) now.tries goes.spent (rw edit at spends) end))
         (subst (λ n. HasTriedAllBut c h n now.tries) (limit ∙ goes.limit) x.2);
     form = edit_form now.edit.goal.goal now.edit.rule a;
     says = edit_says tries c h now (rw edit goes.mode) (dict_mode c.layout.mode old.edit.goal.balance goes.mode, run) (rw edit goes.small) a (call ∙ goes.number) (limit ∙ goes.limit) x.1;

@@ -3,6 +3,7 @@
 use Rattle.std.specs.Prelude.{◌≡◌, ℕ, ◌*◌, ◌+◌, ◌^◌, ◌<◌, ◌≤◌, Bool, true, false}
 use Rattle.histories.specs.Common.{History, Call, Remaining}
 use Rattle.template.specs.Common.{most_nodes, most_scx, MapCall, Edit, Get, Range, Goal, Key, End, Rule, tries_since, HasTriedAtMost}
+use Rattle.prims.specs.Shares.{share_end}
 use Rattle.template.specs.declared.walk.Way.{Way}
 use Rattle.template.specs.declared.walk.Way.TheVariants.{InTree, InTrie, Within}
 use Rattle.ordered_map.specs.declared.rule.Rule.TheVariants.{Take}
@@ -65,6 +66,10 @@ tries_behind m = inner_tries (inner m)
 abbrev pub KeepsTriesButOne : MapRun → MapRun → Type 0
 KeepsTriesButOne old now = (tries_behind now ≤ tries_behind old) × (tries_behind old ≤ tries_behind now + 1)
 
+-- what is left of its share ends where it did: it takes from the lower end
+abbrev pub KeepsEnd : MapRun → MapRun → Type 0
+KeepsEnd old now = share_end (share_of now) ≡ share_end (share_of old)
+
 -- the key of a call that may edit it, if it names one, is one of a word; at an end it takes what is
 -- there
 abbrev pub IsSmallCall : MapCall → Type 0
@@ -90,6 +95,8 @@ pub record HasSpent (c : Call) (h : History) (call : MapCall) (tries : ℕ) (sha
   pub scx : left.scx ≤ share.scx + most_scx call (tries_since c.pass h c.start)
   -- and for each SCX-record that is gone at most this many nodes
   pub each : left.nodes + most_nodes call * share.scx ≤ share.nodes + most_nodes call * left.scx
+  -- it was taken from the lower end
+  pub end : share_end share ≡ share_end left
 
 -- it takes some pairs, where it is a range
 abbrev pub AsksForPairs : MapCall → Type 0

@@ -4,6 +4,7 @@ use Rattle.histories.specs.Common.{Step, History, Extends, Call, Remaining}
 use Rattle.order.specs.Known.{ReadIsReady, ReadWaits}
 use Rattle.order.specs.declared.run.ReadAt.TheVariants.{Start as ReadStart}
 use Rattle.prims.specs.Laws.Idle.{IsQuietSince}
+use Rattle.prims.specs.Shares.{share_end}
 use Rattle.template.specs.Common.{IsMapRun, Key as ToKey, tries_begun, WalkIsReady, WalkWaits, MayReply, nodes_in_try, Edit}
 use Rattle.template.specs.declared.walk.WalkAt.{WalkAt}
 use Rattle.template.specs.declared.walk.WalkAt.TheVariants.{Start as WalkStart, Root}
@@ -32,6 +33,7 @@ pub record HasSpentSo (c : Call) (most : ℕ) (share : Remaining) (tries nodes s
   pub left : Remaining
   pub first : RestsWith c c.start left
   pub spends : Spends most left share tries nodes tries scx
+  pub end : share_end share ≡ share_end left
 
 -- what is gone of the share of a call with this many tries: of a read nothing
 abbrev pub HasSpentIn : InnerRun → ℕ → Call → Type 0

@@ -9,3 +9,4 @@ pub mod TypedSteps
 pub mod Dict
 pub mod Begins
 pub mod OneShare
+pub mod Taken

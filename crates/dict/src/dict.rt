@@ -1,6 +1,6 @@
 //! The machine of a call of a dictionary.
 ghost use Rattle.std.specs.Prelude.{◌≡◌, ◌<◌, ◌≤◌, ℕ, IsSome};
-ghost use Rattle.dict.specs.Calls.{KeepsTriesButOne, call_in, share_of, trie_in};
+ghost use Rattle.dict.specs.Calls.{KeepsEnd, KeepsTriesButOne, call_in, share_of, trie_in};
 ghost use Rattle.template.specs.Balance.{nodes_by};
 ghost use Rattle.dict.specs.Known.{AsksFirst, IsUnbegun};
 ghost use Rattle.dict.specs.Says.{KeepsLists};
@@ -148,7 +148,7 @@ impl<K: WordKey, V: WordValue, B: FixedBalance> Machine<Dict<K, V, B>> for DictR
 
     ghost answers = { DictAnswers K.is_valid K.word_of V.is_valid V.word_of };
 
-    ghost same = { λ old now. (call_in now.run ≡ call_in old.run) × (now.tries ≡ old.tries) × KeepsTriesButOne old.run now.run × (trie_in now.run ≡ trie_in old.run) };
+    ghost same = { λ old now. (call_in now.run ≡ call_in old.run) × (now.tries ≡ old.tries) × KeepsTriesButOne old.run now.run × (trie_in now.run ≡ trie_in old.run) × KeepsEnd old.run now.run };
 
     ghost left = { λ m nodes. map_left m.run nodes };
 

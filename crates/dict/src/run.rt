@@ -3,7 +3,7 @@ ghost use Rattle.std.specs.Prelude.{◌≡◌, ◌<◌, ◌≤◌, ℕ, None, Is
 ghost use Rattle.arena.specs.History.{History};
 ghost use Rattle.arena.specs.Machines.{Call, IsRun, MatchTurn};
 ghost use Rattle.ordered_map.specs.TreeShape.{TreeAllows};
-ghost use Rattle.dict.specs.Calls.{KeepsTriesButOne, call_in, share_of, trie_in};
+ghost use Rattle.dict.specs.Calls.{KeepsEnd, KeepsTriesButOne, call_in, share_of, trie_in};
 ghost use Rattle.template.specs.Balance.{nodes_by};
 ghost use Rattle.dict.specs.Known.{AsksFirst, IsUnbegun, MapIsReady, MapWaits};
 ghost use Rattle.dict.specs.Says.{KeepsLists};
@@ -104,6 +104,7 @@ impl MapRun {
         ensures same { call_in self.new ≡ call_in self.old }
         ensures trie { trie_in self.new ≡ trie_in self.old }
         ensures tries { KeepsTriesButOne self.old self.new }
+        ensures end { KeepsEnd self.old self.new }
         ensures nearer { (nodes : ℕ) → MapFits self.old got nodes → HasComeNearer self.old self.new nodes result }
     {
         match self {

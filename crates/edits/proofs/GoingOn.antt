@@ -41,11 +41,11 @@ module _ {E : Type 0} (e : EditMeaning E) {A : Type 0} (m : UpdateRun E A) (now 
 
 -- at its place once that has begun, it makes the same update
 pub placed_same : {E : Type 0} (e : EditMeaning E) {A : Type 0} (m : UpdateRun E A) (f : Found) (next : Next) → IsSameUpdate m (placed e m f next)
-placed_same e m f (Look n) = (refl, refl, refl)
-placed_same e m f (Wait n b scx) = (refl, refl, refl)
-placed_same e m f (Read n part) = (refl, refl, refl)
-placed_same e m f (FillNext nth) = (refl, refl, refl)
-placed_same e m f (Change scx) = (refl, refl, refl)
+placed_same e m f (Look n) = (refl, refl, refl, refl)
+placed_same e m f (Wait n b scx) = (refl, refl, refl, refl)
+placed_same e m f (Read n part) = (refl, refl, refl, refl)
+placed_same e m f (FillNext nth) = (refl, refl, refl, refl)
+placed_same e m f (Change scx) = (refl, refl, refl, refl)
 
 -- so much is left, where less is
 pub weighs_next : {E : Type 0} (e : EditMeaning E) {A : Type 0} (m : UpdateRun E A) (f : Found) (next : Result Next Stop) (nodes n : ℕ) → ComesNearer e m f next nodes n → left_then e m f next nodes ≤ n

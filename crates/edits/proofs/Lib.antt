@@ -4,6 +4,7 @@ mod Nearer
 mod Widened
 mod Undisturbed
 mod Making
+mod Taking
 mod Turns
 mod ReadWords
 mod FilledNodes

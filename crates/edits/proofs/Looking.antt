@@ -115,8 +115,8 @@ hand_begins c h left t piece l some x = record {
   hand = record {
     own = λ n i j. own n i j;
     before = x.share.taken_nodes;
-    unnamed = λ n i j. unmentioned_unnamed c.layout h c.pass n (own n i j) (x.share.unmentioned n (here n i j));
-    unmentioned = x.share.unmentioned (left.next_node + t) (here (left.next_node + t) (omega arith) (omega arith));
+    unnamed = λ n i j. unmentioned_unnamed c.layout h c.pass n (own n i j) (x.share.unmentioned n (own n i j) i);
+    unmentioned = x.share.unmentioned (left.next_node + t) (own (left.next_node + t) (omega arith) (omega arith)) (omega arith);
   };
   share = record {
     from_node = let a = x.share.from_node in omega (arith, a);
@@ -125,9 +125,9 @@ hand_begins c h left t piece l some x = record {
     to_scx = x.share.to_scx;
     taken_nodes = x.share.taken_nodes;
     taken_scx = x.share.taken_scx;
-    unmentioned = λ n p. x.share.unmentioned n (back n p);
-    untaken_nodes = λ n p. x.share.untaken_nodes n (back n p);
-    untaken = λ s p. x.share.untaken s record { from = p.from; below = p.below };
+    unmentioned = λ n o i. x.share.unmentioned n o (omega (arith, i));
+    untaken_nodes = λ n o i. x.share.untaken_nodes n o (omega (arith, i));
+    untaken = x.share.untaken;
   };
   next = omega arith;
   over = x.over;
@@ -141,9 +141,6 @@ hand_begins c h left t piece l some x = record {
 
     own : (n : ℕ) → left.next_node ≤ n → n ≤ left.next_node + t → IsOwnNode c.layout c.pass n
     own n i j = left_own_node c.layout h c.pass left left.next_node left.next_scx n x.share (here n i j)
-
-    back : (n : ℕ) → HasNode (without left (suc t)) n → HasNode left n
-    back n p = record { from = let a = p.from in omega (arith, a); below = let a = p.below in omega (arith, a, some) }
 
 -- and so they are by the numbers that they have
 in_hand : (c : Call) (h : History) (left now : Remaining) (first top t : ℕ) (piece : ℕ → Piece) → Lawful c.layout h → t < left.nodes → RestsWith c h left → now ≡ without left (suc t) → first ≡ left.next_node → top ≡ left.next_node + t → HasFilledTo c.layout h c.pass now first top first piece
@@ -169,7 +166,7 @@ module _ {E : Type 0} (e : EditMeaning E) {A : Type 0} (m now : UpdateRun E A) (
       in_order = t.in_order;
       some = subst (λ (s : Remaining). 0 < s.scx) (sym t.share) x.room.scx;
       guarded = x.guarded;
-      untaken = λ i n taken. x.begins.rests.share.untaken_nodes (nth_node now.nodes i).0 (left_here i n) (taken_node_since h c.start (nth_node now.nodes i).0 x.begins.since taken);
+      untaken = λ i n taken. let p = left_here i n in x.begins.rests.share.untaken_nodes (nth_node now.nodes i).0 (left_own_node c.layout h c.pass m.share m.share.next_node m.share.next_scx (nth_node now.nodes i).0 x.begins.rests.share p) p.from (taken_node_since h c.start (nth_node now.nodes i).0 x.begins.since taken);
     };
     full = in_hand c h m.share now.share now.nodes.first.0 (top_of m.work.need now.nodes) (min m.work.need 3 - 1) _ x.begins.run.1.lawful (let n = x.room.some in let k = x.room.nodes in omega (arith, n, k)) x.begins.rests
         (t.share ∙ ap (without m.share) (let n = x.room.some in omega (arith, n))) t.first (let a = t.first in let b = last in omega (arith, a, b));

@@ -8,5 +8,6 @@ pub mod Kept
 pub mod Entered
 pub mod Trying
 pub mod Update
+pub mod Taken
 pub mod Opened
 pub mod Contended

@@ -4,6 +4,7 @@ pub mod Readings
 pub mod Edits
 pub mod Steps
 pub mod Tries
+pub mod Taken
 pub mod Known
 pub mod Next
 pub mod Sound

@@ -2,6 +2,7 @@
 use Rattle.std.specs.Prelude.{◌≡◌, ℕ, suc, ◌*◌, ◌<◌, ◌≤◌, Result, Ok, Err}
 use Rattle.histories.specs.Common.{Ask, Load as LoadAccess, Store, LoadMarked, LoadState, LoadSettled, Fill as FillKind, Step, NodeWord, Settled, Marked as MarkedWord}
 use Rattle.histories.specs.Common.{SettledPart, Head, Key, Value, Slot, Plan as PlanWord, State as StateWord, Node as NodeOf, Scx as ScxOf, History, Call, Remaining}
+use Rattle.prims.specs.Shares.{share_end}
 use Rattle.prims.specs.declared.llx.LlxAt.TheVariants.{Marked, StateAgain}
 use Rattle.prims.specs.declared.llx.LlxRun.{LlxRun}
 use Rattle.prims.specs.declared.scx.ScxAt.TheVariants.{Plan as AtPlan}
@@ -26,9 +27,10 @@ use Rattle.edits.specs.declared.update.Updated.TheVariants.{Full as FullAnswer}
 abbrev pub standing : {E A B : Type 0} → UpdateRun E A → B → UpdateRun E B
 standing m at = record { edit = m.edit; share = m.share; work = m.work; guard = m.guard; snaps = m.snaps; nodes = m.nodes; read = m.read; tries = m.tries; limit = m.limit; call = m.call; at = at }
 
--- it makes the same edit, in the same call, which may try as often
+-- it makes the same edit, in the same call, which may try as often, and what is left of its share
+-- ends where it did
 abbrev pub IsSameUpdate : {E A B : Type 0} → UpdateRun E A → UpdateRun E B → Type 0
-IsSameUpdate old now = (now.edit ≡ old.edit) × (now.call ≡ old.call) × (now.limit ≡ old.limit)
+IsSameUpdate old now = (now.edit ≡ old.edit) × (now.call ≡ old.call) × (now.limit ≡ old.limit) × (share_end now.share ≡ share_end old.share)
 
 -- the update once this word of the node that it reads was found to hold v
 abbrev pub told : {E A : Type 0} → UpdateRun E A → SettledPart → ℕ → UpdateRun E A

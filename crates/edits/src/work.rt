@@ -21,6 +21,7 @@ impl<E: Edit + Drop, A: Drop> UpdateRun<E, A> {
     ghost use Rattle.arena.specs.Machines.{Call, IsRun, begun_at};
     ghost use Rattle.prims.specs.FoundThere.{HasFoundThere};
     ghost use Rattle.prims.specs.Llx.Known.{IsSnapshot};
+    ghost use Rattle.prims.specs.Shares.{share_end};
     ghost use Rattle.ordered_map.specs.TreeShape.{TreeAllows};
     ghost use Rattle.edits.specs.Edits.{all_looks, covering};
     ghost use Rattle.edits.specs.Known.{Guarded, MayBeginTry, IsUntouched, CanLook, CanWork, CanRead, Reads};
@@ -201,6 +202,7 @@ impl<E: Edit + Drop, A: Drop> UpdateRun<E, A> {
         ensures same { self.new ≡ record self.old { share = self.new.share; nodes = self.new.nodes } }
         ensures spent { ((most : ℕ) → 0 < most → self.old.work.need ≤ most → self.old.share.nodes ≤ self.new.share.nodes + most)
             × (self.new.share.scx ≡ self.old.share.scx) }
+        ensures end { share_end self.new.share ≡ share_end self.old.share }
         ensures taken { HasNodesFor self.old.work.need self.old.share
             → HasTakenNodes self.old.work.need self.old.share self.new.share self.new.nodes }
     {
@@ -221,6 +223,7 @@ impl<E: Edit + Drop, A: Drop> UpdateRun<E, A> {
         ensures spent { (self.old.share.nodes ≤ self.new.share.nodes + 1) × (self.new.share.scx ≡ self.old.share.scx) }
         ensures taken { 0 < self.old.share.nodes →
             (result.0 ≡ self.old.share.next_node) × (self.new.share ≡ less_a_node self.old.share) }
+        ensures end { share_end self.new.share ≡ share_end self.old.share }
         ensures same { self.new ≡ record self.old { share = self.new.share } }
         ensures tries { self.new.tries ≡ self.old.tries }
         ensures limit { self.new.limit ≡ self.old.limit }

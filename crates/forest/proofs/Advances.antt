@@ -7,9 +7,10 @@ use Rattle.planting.specs.Plantings.{PlantingView}
 use Rattle.touching.specs.Steps.{IsMapStep}
 use Rattle.forest.specs.CallSteps.{IsOfMapCall}
 use Rattle.forest.specs.declared.rule.CallStep.{CallStep}
+use Rattle.forest.specs.declared.memory.PassMemory.{PassMemory}
 use Rattle.forest.specs.declared.view.SeatedPass.{SeatedPass}
 use Rattle.forest.specs.TableRule.{history_of, past_of, seated_pass, ByOthers, MayStep, Made, row}
-use Rattle.forest.specs.Traces.{HoldsForCall, IsInCall, IsSeated, known_of, planting_of, rest_at, rested_of, rows_of, run_at, seat_steps, shared_nodes, weight}
+use Rattle.forest.specs.Traces.{HoldsForCall, IsInCall, IsSeated, known_of, planting_of, rest_at, memory_of, rows_of, run_at, seat_steps, shared_nodes, weight}
 
 -- a run without its last row is a run
 pub run_before : (allows : Layout → History → ℕ → Type 0) (lay : Layout) (h : History) (r : Row) → IsRun allows lay (r ⊳ h) → IsRun allows lay h
@@ -22,9 +23,9 @@ keeps_all allows lay c P planting keeps [] known by run x = x
 keeps_all allows lay c P planting keeps (r ∷ rs) known by run x = keeps (history_of planting (rs ++ known)) r run by.0 (keeps_all allows lay c P planting keeps rs known by.1 (run_before allows lay (history_of planting (rs ++ known)) r run) x)
 
 -- the one pass of a seat, by what it knows
-pub seat_back : (ps : List SeatedPass) (n : ℕ) (lay : Layout) (planting : PlantingView) (rested known : List Row) → ps ≡ seated_pass n lay planting rested known ∷ [] → Extends (history_of planting known) (history_of planting rested) → IsSeated n lay ps
-seat_back ps n lay planting rested known e since = record {
-  alone = subst (λ (qs : List SeatedPass). ps ≡ seated_pass n lay (planting_of qs) (rested_of qs) (known_of qs) ∷ []) (sym e) e;
+pub seat_back : (ps : List SeatedPass) (n : ℕ) (lay : Layout) (planting : PlantingView) (memory : PassMemory) (known : List Row) → ps ≡ seated_pass n lay planting memory known ∷ [] → Extends (history_of planting known) (history_of planting memory.rested) → IsSeated n lay ps
+seat_back ps n lay planting memory known e since = record {
+  alone = subst (λ (qs : List SeatedPass). ps ≡ seated_pass n lay (planting_of qs) (memory_of qs) (known_of qs) ∷ []) (sym e) e;
   since = subst (λ (qs : List SeatedPass). Extends (run_at qs) (rest_at qs)) (sym e) since;
 }
 
@@ -35,7 +36,7 @@ since_start planting (r ∷ rs) = inr (since_start planting rs)
 
 -- so it is after a call
 pub call_back : (ps : List SeatedPass) (c : Call) (planting : PlantingView) (known : List Row) → IsInCall ps c planting known → Extends (history_of planting known) c.start → IsSeated c.pass c.layout ps
-call_back ps c planting known x since = seat_back ps c.pass c.layout planting x.rested known x.alone (ends_trans (history_of planting known) c.start (history_of planting x.rested) since x.since)
+call_back ps c planting known x since = seat_back ps c.pass c.layout planting x.memory known x.alone (ends_trans (history_of planting known) c.start (history_of planting x.memory.rested) since x.since)
 
 first_or : SeatedPass → List SeatedPass → SeatedPass
 first_or p [] = p
@@ -56,7 +57,7 @@ module _ (allows : Layout → History → ℕ → Type 0) (c : Call) (said : Cal
 
   pub may : (ps : List SeatedPass) (waits : History → Type 0) → ((h : History) (r : Row) → IsRun allows c.layout (r ⊳ h) → r.pass.0 ≢ c.pass → waits h → waits (r ⊳ h)) → ((h : History) → IsRun allows c.layout h → waits h → IsRun allows c.layout (row_of c said.step h ⊳ h)) → HoldsForCall allows ps c waits → (p : SeatedPass) × (ps ≡ p ∷ []) × MayStep allows said p
   may ps waits keeps lawful x = (
-    seated_pass c.pass c.layout x.planting x.is.rested x.known,
+    seated_pass c.pass c.layout x.planting x.is.memory x.known,
     x.is.alone,
     λ rows by run. subst (λ r. IsRun allows c.layout (r ⊳ history_of x.planting (rows ++ x.known))) (row_is (history_of x.planting (rows ++ x.known))) (lawful (history_of x.planting (rows ++ x.known)) run (keeps_all allows c.layout c.pass waits x.planting keeps rows x.known by run x.so)),
   )
@@ -64,7 +65,7 @@ module _ (allows : Layout → History → ℕ → Type 0) (c : Call) (said : Cal
   -- in a map it is one of a map's call
   pub of_map_call : (ps : List SeatedPass) (waits : History → Type 0) → ((h : History) (r : Row) → IsRun allows c.layout (r ⊳ h) → r.pass.0 ≢ c.pass → waits h → waits (r ⊳ h)) → ((h : History) → waits h → IsMapStep c h (row_of c said.step h)) → HoldsForCall allows ps c waits → (p : SeatedPass) × (ps ≡ p ∷ []) × IsOfMapCall allows said p
   of_map_call ps waits keeps steps x = (
-    seated_pass c.pass c.layout x.planting x.is.rested x.known,
+    seated_pass c.pass c.layout x.planting x.is.memory x.known,
     x.is.alone,
     record {
       call = c;
@@ -82,18 +83,18 @@ module _ (allows : Layout → History → ℕ → Type 0) (c : Call) (said : Cal
 
   -- what it has made of what was so
   pub told : (ps qs : List SeatedPass) (n : ℕ) (P Q : History → Type 0) → ((h : History) (r : Row) → IsRun allows c.layout (r ⊳ h) → r.pass.0 ≢ c.pass → P h → P (r ⊳ h)) → ((h : History) → IsRun allows c.layout (row_of c said.step h ⊳ h) → IsTold said.step.access (value h said.step.word) n → P h → Q (row_of c said.step h ⊳ h)) → Made allows said ps n qs → HoldsForCall allows ps c P → HoldsForCall allows qs c Q
-  told ps qs n P Q keeps goes m x = from (sym (same_knower ps (seated_pass c.pass c.layout x.planting x.is.rested x.known) m.pass x.is.alone m.was)) m.others m.by_others m.before m.after m.told m.is
+  told ps qs n P Q keeps goes m x = from (sym (same_knower ps (seated_pass c.pass c.layout x.planting x.is.memory x.known) m.pass x.is.alone m.was)) m.others m.by_others m.before m.after m.told m.is
     where
-      from : {p : SeatedPass} → p ≡ seated_pass c.pass c.layout x.planting x.is.rested x.known → (rows : List Row) → ByOthers p.number.0 rows → IsRun allows p.layout (past_of p rows) → IsRun allows p.layout (row p.number.0 said (past_of p rows) ⊳ past_of p rows) → IsTold said.step.access (value (past_of p rows) said.step.word) n → qs ≡ seated_pass p.number.0 p.layout p.planting p.rested (row p.number.0 said (past_of p rows) ∷ (rows ++ p.known)) ∷ [] → HoldsForCall allows qs c Q
+      from : {p : SeatedPass} → p ≡ seated_pass c.pass c.layout x.planting x.is.memory x.known → (rows : List Row) → ByOthers p.number.0 rows → IsRun allows p.layout (past_of p rows) → IsRun allows p.layout (row p.number.0 said (past_of p rows) ⊳ past_of p rows) → IsTold said.step.access (value (past_of p rows) said.step.word) n → qs ≡ seated_pass p.number.0 p.layout p.planting p.memory (row p.number.0 said (past_of p rows) ∷ (rows ++ p.known)) ∷ [] → HoldsForCall allows qs c Q
       from {p} e rows by before after tells is =
           let h : History = history_of x.planting (rows ++ x.known) in
           let by' : ByOthers c.pass rows = rw e at by in
           let before' : IsRun allows c.layout h = rw e at before in
           let after' : IsRun allows c.layout (row_of c said.step h ⊳ h) = rw (row_is h) (rw e at after) in
           let tells' : IsTold said.step.access (value h said.step.word) n = rw e at tells in
-          let is' : qs ≡ seated_pass c.pass c.layout x.planting x.is.rested (row c.pass said h ∷ (rows ++ x.known)) ∷ [] = rw e at is in
+          let is' : qs ≡ seated_pass c.pass c.layout x.planting x.is.memory (row c.pass said h ∷ (rows ++ x.known)) ∷ [] = rw e at is in
           let done : Q (row_of c said.step h ⊳ h) = goes h after' tells' (keeps_all allows c.layout c.pass P x.planting keeps rows x.known by' before' x.so) in
-          record { planting = x.planting; known = row c.pass said h ∷ (rows ++ x.known); is = record { rested = x.is.rested; alone = is'; since = x.is.since }; sound = rw (row_is h) at after'; so = rw (row_is h) at done }
+          record { planting = x.planting; known = row c.pass said h ∷ (rows ++ x.known); is = record { memory = x.is.memory; alone = is'; since = x.is.since }; sound = rw (row_is h) at after'; so = rw (row_is h) at done }
 
 pub turn_map : {A : Type 0} (t : Turn A) (F F' : Step → Type 0) (H H' : A → Type 0) → ((s : Step) → F s → F' s) → ((a : A) → H a → H' a) → MatchTurn t F H → MatchTurn t F' H'
 turn_map (Ask s) F F' H H' f h x = f s x

@@ -8,6 +8,7 @@ use Rattle.histories.specs.Common.{Layout, state, Remaining, HasScx, History, �
 use Rattle.histories.proofs.Lemmas.{lawful_since, named_scx_more, named_scx_taken, since, state_since}
 use Rattle.prims.specs.Laws.Begun.{taken_since}
 use Rattle.prims.specs.Shares.{IsShare}
+use Rattle.prims.proofs.Lemmas.{left_own_scx}
 use Rattle.template.specs.Blame.{IsOverOrNew}
 use Rattle.forest.specs.Passes.{PassView, HasBlamed, run_of}
 use Rattle.forest.proofs.BlameCounts.{for_nobody, for_later, few_more, each_more}
@@ -95,7 +96,7 @@ blamed_more old new n s lay number more l e f x = record {
 
 -- what has begun by a moment is no more in a share, what is left of which is untaken
 begun_left : (lay : Layout) (h m : History) (c : ℕ) (left : Remaining) (node scx s : ℕ) → Lawful lay m → Extends h m → IsShare lay h c left node scx → IsNamedScx m s → ¬ HasScx left s
-begun_left lay h m c left node scx s l e share d p = share.untaken s p (taken_since h m s e (named_scx_taken lay m s l (λ z. let a = p.from in let b = share.from_scx in omega arith) d))
+begun_left lay h m c left node scx s l e share d p = share.untaken s (left_own_scx lay h c left node scx s share p) p.from (taken_since h m s e (named_scx_taken lay m s l (λ z. let a = p.from in let b = share.from_scx in omega arith) d))
 
 -- the blame list of p, and the share of q, which is untaken in a run that extends what p knows
 pub blames_left : (lay : Layout) (h : History) (p q : PassView) (c node scx : ℕ) → Lawful lay (run_of p) → Extends h (run_of p) → IsShare lay h c q.share node scx → HasBlamed p → All (λ s. ¬ HasScx q.share s) p.blamed

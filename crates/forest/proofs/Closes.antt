@@ -14,7 +14,7 @@ use Rattle.forest.specs.declared.view.SeatedPass.{SeatedPass}
 use Rattle.forest.specs.declared.view.SeatView.{SeatView}
 use Rattle.forest.specs.declared.pass.Pass.TheInside.{Inside}
 use Rattle.forest.specs.TableRule.{history_of, seated_pass, look, after_look, Made, TableIsLawful, Owns, Behind, plot_of, HasLookedBehind}
-use Rattle.forest.specs.Traces.{known_of, planting_of, rested_of, run_at, rows_of}
+use Rattle.forest.specs.Traces.{known_of, planting_of, memory_of, run_at, rows_of}
 use Rattle.prims.specs.Shares.{IsShare}
 use Rattle.forest.specs.Shares.{IsBetweenCalls, entries_of}
 use Rattle.forest.specs.Passes.{PassView, IsOn, HoldsOfOwn, IsLook, AreBegun, HasBlamed, HaveLeftShares, IsClosed, run_of, done_of, steps_of}
@@ -39,8 +39,8 @@ index_is (x ∷ xs) (suc i) a e = index_is xs i a e
 -- a pass that has looked at the table once more
 pub looked_from : {allows : Layout → History → ℕ → Type 0} {mode : Mode} {T : Type 0} (p : Inside T) (x : IsPass allows mode p) (s : Seat ℕ SeatView) (n : ℕ) → s.me.1 ≡ p.seat.me.1 → Made allows look p.seat.me.0.passes n s.me.0.passes → (k : SeatedPass) × (s.me.0.passes ≡ k ∷ []) × IsFrom allows (pass_view p) k
 looked_from {allows} {mode} p x s n bare m = (
-  seated_pass p.number.0 p.layout (planting_of p.seat.me.0.passes) (rested_of s.me.0.passes) (known_of s.me.0.passes),
-  subst (λ b. s.me.0.passes ≡ seated_pass p.number.0 p.layout b (rested_of s.me.0.passes) (known_of s.me.0.passes) ∷ []) planted y.seat.alone,
+  seated_pass p.number.0 p.layout (planting_of p.seat.me.0.passes) (memory_of s.me.0.passes) (known_of s.me.0.passes),
+  subst (λ b. s.me.0.passes ≡ seated_pass p.number.0 p.layout b (memory_of s.me.0.passes) (known_of s.me.0.passes) ∷ []) planted y.seat.alone,
   record {
     is = refl;
     is_pass = x.is_pass;
@@ -55,7 +55,7 @@ looked_from {allows} {mode} p x s n bare m = (
 )
   where
     me : SeatedPass
-    me = seated_pass p.number.0 p.layout (planting_of p.seat.me.0.passes) (rested_of p.seat.me.0.passes) (known_of p.seat.me.0.passes)
+    me = seated_pass p.number.0 p.layout (planting_of p.seat.me.0.passes) (memory_of p.seat.me.0.passes) (known_of p.seat.me.0.passes)
 
     same : m.pass ≡ me
     same = same_knower p.seat.me.0.passes m.pass me m.was x.seat.alone

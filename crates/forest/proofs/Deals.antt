@@ -6,10 +6,11 @@ use Rattle.atomic_table.specs.Table.{State, Splits, Joins, opening}
 use Rattle.atomic_table.proofs.Lists.{at_set}
 use Rattle.histories.specs.Common.{Layout, Row, Word, place, table_size, IsWord, History, Opened, value, IsRun}
 use Rattle.planting.specs.Plantings.{opening_for}
+use Rattle.forest.specs.declared.memory.PassMemory.{PassMemory}
 use Rattle.forest.specs.declared.rule.Plot.{Plot}
 use Rattle.forest.specs.declared.view.SeatedPass.{SeatedPass}
 use Rattle.forest.specs.declared.view.SeatView.{SeatView}
-use Rattle.forest.specs.TableRule.{TableIsLawful, Owns, Absent, seat_view, new_passes, rest_of_seat, first_of_seat, joined_seat, rest_of, first_of}
+use Rattle.forest.specs.TableRule.{TableIsLawful, Owns, Absent, no_memory, seat_view, new_passes, passes_with, rest_of_seat, first_of_seat, joined_seat, rest_of, first_of}
 
 pub snoc_at : {A : Type 0} (l : List A) (a b : A) (j : ℕ) → get_elem? (l ++ a ∷ []) j ≡ some b → (get_elem? l j ≡ some b) ⊎ ((j ≡ length l) × (a ≡ b))
 snoc_at [] a b zero e = inr (refl, some-injective a b e)
@@ -69,6 +70,15 @@ module _ (plot : Plot) (run : List Row) (owner : ℕ → ℕ) where
     owned_both id other ne ps qs h.4 k,
   )
 
+-- passes that are new are apart, and their seat's own
+absent_below : (memory : ℕ → PassMemory) (plot : Plot) (k from n : ℕ) → k < from → Absent k (passes_with memory plot from n)
+absent_below memory plot k from zero h = tt
+absent_below memory plot k from (suc n) h = ((λ e. omega (arith, e, h)), absent_below memory plot k (suc from) n (omega (arith, h)))
+
+pub owns_new : (memory : ℕ → PassMemory) (plot : Plot) (from n : ℕ) → Owns plot [] (λ _. 0) 0 (passes_with memory plot from n)
+owns_new memory plot from zero = tt
+owns_new memory plot from (suc n) = (refl, refl, ([], refl, tt), absent_below memory plot from (suc from) n (omega arith), owns_new memory plot (suc from) n)
+
 module _ (allows : Layout → History → ℕ → Type 0) (plot : Plot) where
   -- the rule holds of other views where it holds of all of them
   reseated : (s : State ℕ SeatView) (views : List SeatView) (kept : TableIsLawful allows plot s) (owner : ℕ → ℕ) → ((id : ℕ) (v : SeatView) → get_elem? views id ≡ some v → Owns plot kept.run owner id v.passes) → TableIsLawful allows plot (record { words = s.words; homes = s.homes; views = views })
@@ -122,14 +132,6 @@ module _ (allows : Layout → History → ℕ → Type 0) (plot : Plot) where
   pub splits : (id : ℕ) (v : SeatView) → Splits (TableIsLawful allows plot) id v (rest_of_seat v) (first_of_seat v)
   splits id v = splits_list id v v.passes refl
 
-  apart_below : (k from n : ℕ) → k < from → Absent k (new_passes plot from n)
-  apart_below k from zero h = tt
-  apart_below k from (suc n) h = ((λ e. omega arith), apart_below k (suc from) n (omega arith))
-
-  opened : (from n : ℕ) → Owns plot [] (λ _. 0) 0 (new_passes plot from n)
-  opened from zero = tt
-  opened from (suc n) = (refl, refl, ([], refl, tt), apart_below from (suc from) n (omega arith), opened (suc from) n)
-
   -- the rule holds of words as they are at the start
   pub opens : (words : List ℕ) (n : ℕ) → length words ≡ table_size plot.layout → ((w : Word) → IsWord plot.layout w → slice_index words (place plot.layout w) ≡ (opening_for plot.planting).words w) → IsRun allows plot.layout (Opened (opening_for plot.planting)) → TableIsLawful allows plot (opening words [] (seat_view (new_passes plot 0 n)))
   unfolding value
@@ -141,6 +143,6 @@ module _ (allows : Layout → History → ℕ → Type 0) (plot : Plot) where
     owner = λ _. 0;
     passes = λ j u e. ⊎_elim
         (λ (t : get_elem? {A = SeatView} [] j ≡ some u). absurd (some-ne-none u (sym t)))
-        (λ (t : (j ≡ 0) × (seat_view (new_passes plot 0 n) ≡ u)). subst (λ x. Owns plot [] (λ _. 0) j x.passes) t.1 (subst (λ i. Owns plot [] (λ _. 0) i (new_passes plot 0 n)) (sym t.0) (opened 0 n)))
+        (λ (t : (j ≡ 0) × (seat_view (new_passes plot 0 n) ≡ u)). subst (λ x. Owns plot [] (λ _. 0) j x.passes) t.1 (subst (λ i. Owns plot [] (λ _. 0) i (new_passes plot 0 n)) (sym t.0) (owns_new (λ c. no_memory) plot 0 n)))
         (snoc_at [] (seat_view (new_passes plot 0 n)) u j e);
   }

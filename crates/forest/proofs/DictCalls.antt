@@ -3,16 +3,16 @@ use Rattle.std.specs.Prelude.{Bool}
 use Rattle.dict.specs.Laws.Begins.{dict_mode}
 use Rattle.template.specs.Balance.{map_mode}
 use Rattle.dict.specs.Calls.{trie_in}
-use Rattle.std.proofs.Common.{◌≡◌, ◌∙◌, arith, ℕ, suc, ◌+◌, ◌*◌, ◌<◌, ◌≤◌, ◌∷◌, List, Option, Some, None, refl, ap, sym, subst}
-use Rattle.std.proofs.Math.Nat.{lt_of_not-le}
+use Rattle.std.proofs.Common.{◌≡◌, ◌∙◌, arith, ℕ, ◌+◌, ◌*◌, ◌<◌, ◌≤◌, ◌∷◌, List, Option, Some, None, refl, ap, sym, subst}
 use Rattle.atomic_table.specs.declared.shared.Seat.{Seat}
-use Rattle.histories.specs.Common.{Layout, History, Extends, Remaining}
+use Rattle.histories.specs.Common.{Layout, History, Extends, Remaining, IsOwnNode, IsOwnScx}
 use Rattle.template.specs.Common.{MapCall, Edit, Get, Range, Neighbour, MapReply, IsMapRun, IsShare, most_nodes, most_scx, tries_since, told_of, Reply}
 use Rattle.prims.specs.Laws.Begun.{taken_since}
-use Rattle.prims.proofs.Lemmas.{all_over, taken_node_since}
+use Rattle.prims.specs.Shares.{share_end}
+use Rattle.prims.proofs.Lemmas.{all_over, one_end, taken_node_since}
 use Rattle.edits.specs.Known.{RestsWith}
 use Rattle.dict.specs.Laws.Begins.{dict_begins}
-use Rattle.dict.specs.Calls.{call_in, share_of, IsFewCall}
+use Rattle.dict.specs.Calls.{KeepsEnd, call_in, share_of, IsFewCall}
 use Rattle.dict.specs.DictKnown.{DictIsReady, DictWaits, DictAnswers, DictRefuses}
 use Rattle.dict.specs.Known.{IsUnbegun}
 use Rattle.dict.specs.Laws.OneShare.{one_share}
@@ -42,27 +42,23 @@ use Rattle.forest.proofs.Passes.{begun_with, call_of}
 
 -- Shares
 
--- what is left of a share later on is not more
-module _ (lay : Layout) (c : ℕ) (h start : History) (a b : Remaining) (e : Extends h start) (x : IsShare lay start c a a.next_node a.next_scx) (y : IsShare lay h c b b.next_node b.next_scx) where
-  nodes_go : a.next_node ≤ b.next_node
-  nodes_go = let q : a.next_node < suc b.next_node = lt_of_not-le (λ d. y.untaken_nodes b.next_node
-      record { from = omega arith; below = let t = y.to_node in let u = x.to_node in omega (arith, d, t, u) }
-      (taken_node_since h start b.next_node e (x.taken_nodes b.next_node
-      record { from = y.from_node; below = let t = y.to_node in let u = x.to_node in omega (arith, d, t, u) }
-      (omega (arith, d))))) in omega (arith, q)
+-- what is left of a share later on is not more, if it ends where it did
+module _ (lay : Layout) (c : ℕ) (h start : History) (a b : Remaining) (e : Extends h start) (end : share_end b ≡ share_end a) (x : IsShare lay start c a a.next_node a.next_scx) (y : IsShare lay h c b b.next_node b.next_scx) where
+  nodes_not : ¬ (b.next_node < a.next_node)
+  nodes_not i =
+      let own : IsOwnNode lay c b.next_node = record { from = y.from_node; below = let t = x.to_node in omega (arith, i, t) } in
+      y.untaken_nodes b.next_node own (omega arith) (taken_node_since h start b.next_node e (x.taken_nodes b.next_node own i))
 
-  scx_go : a.next_scx ≤ b.next_scx
-  scx_go = let q : a.next_scx < suc b.next_scx = lt_of_not-le (λ d. y.untaken b.next_scx
-      record { from = omega arith; below = let t = y.to_scx in let u = x.to_scx in omega (arith, d, t, u) }
-      (taken_since h start b.next_scx e (x.taken_scx b.next_scx
-      record { from = y.from_scx; below = let t = y.to_scx in let u = x.to_scx in omega (arith, d, t, u) }
-      (omega (arith, d))))) in omega (arith, q)
+  scx_not : ¬ (b.next_scx < a.next_scx)
+  scx_not i =
+      let own : IsOwnScx lay c b.next_scx = record { from = y.from_scx; below = let t = x.to_scx in omega (arith, i, t) } in
+      y.untaken b.next_scx own (omega arith) (taken_since h start b.next_scx e (x.taken_scx b.next_scx own i))
 
   pub share_nodes : b.nodes ≤ a.nodes
-  share_nodes = let n = nodes_go in let t = y.to_node in let u = x.to_node in omega (arith, n, t, u)
+  share_nodes = let n = nodes_not in let t = (one_end b a end).0 in omega (arith, n, t)
 
   pub share_scx : b.scx ≤ a.scx
-  share_scx = let n = scx_go in let t = y.to_scx in let u = x.to_scx in omega (arith, n, t, u)
+  share_scx = let n = scx_not in let t = (one_end b a end).1 in omega (arith, n, t)
 
 -- a range that asks for few pairs is such a call
 pub few_of : {K V : Type 0} (key : K → ℕ) (value_word : V → ℕ) (request : Request K V) (call : MapCall) → call ≡ as_map_call key value_word request → AsksForFew request → IsFewCall call
@@ -81,9 +77,10 @@ module _ {K V : Type 0} (valid_key : K → Type 0) (key : K → ℕ) (valid_valu
   abbrev values : ℕ → Type 0
   values = IsWordOf valid_value value_word
 
-  -- the second machine is of the same call as the first
+  -- the second machine is of the same call as the first, and what is left of its share ends where it
+  -- did
   abbrev pub IsSameCall : DictRun K V → DictRun K V → Type 0
-  IsSameCall old now = (call_in now.run ≡ call_in old.run) × (now.tries ≡ old.tries)
+  IsSameCall old now = (call_in now.run ≡ call_in old.run) × (now.tries ≡ old.tries) × KeepsEnd old.run now.run
 
   -- a call that has not begun may begin, with the pass's share
   pub dict_starts : {trie : Bool} {T : Type 0} (p : Inside T) (x : IsPass allows (map_mode trie) p) (m : DictRun K V) → trie_in m.run ≡ trie → IsTypedCall keys values (call_in m.run) → IsUnbegun m.run m.tries (taken_of (pass_view p)) → IsFewCall (call_in m.run) → share_of m.run ≡ p.share → CallBegins allows (DictIsReady keys values) (call_of p x (taken_of (pass_view p))) p.seat.me.0.passes m
@@ -124,7 +121,7 @@ module _ {K V : Type 0} (valid_key : K → Type 0) (key : K → ℕ) (valid_valu
     pub dict_ended : (first : DictRun K V) → HoldsForCall allows s.me.0.passes (call_of p x called) (λ h. Answered h × Trace allows (DictWaits keys values) (IsSameDictCall valid_key key valid_value value_word) (call_of p x called) first m h) → HasEnded allows p s called Answered × IsSameCall first m
     dict_ended first y = (
       ended p x s called (DictWaits keys values) (IsSameDictCall valid_key key valid_value value_word) first m Answered y,
-      course_keeps (λ (k : DictRun K V). IsSameCall first k) (refl, refl) (λ old now e q. (e.0 ∙ q.0, e.1 ∙ q.1)) m _ y.so.1,
+      course_keeps (λ (k : DictRun K V). IsSameCall first k) (refl, refl, refl) (λ old now e q. (e.0 ∙ q.0, e.1 ∙ q.1, e.4 ∙ q.2)) m _ y.so.1,
     )
 
     -- the pass afterwards
@@ -138,12 +135,13 @@ module _ {K V : Type 0} (valid_key : K → Type 0) (key : K → ℕ) (valid_valu
     pub so_behind : (Q : Inside T → Type 0) (share : Remaining) (blamed : List ℕ) → share_of m.run ≡ share → blamed ≡ blamed_by_reply reply p.blamed → Q behind → Q (left_with p x s called Answered share blamed)
     so_behind Q share blamed is_share is_blamed y = subst (λ b. Q (left_with p x s called Answered share b)) (sym is_blamed) (subst (λ r. Q (left_with p x s called Answered r (blamed_by_reply reply p.blamed))) is_share y)
 
-    module _ (y : HasEnded allows p s called Answered) where
+    -- it has ended with a share that ends where the pass's did
+    module _ (end : share_end (share_of m.run) ≡ share_end p.share) (y : HasEnded allows p s called Answered) where
       map_run : IsMapRun p.layout (run_of now)
       map_run = (dict_mode p.layout.mode trie x.is_mode, typed_run (IsWordOf valid_key key) (IsWordOf valid_value value_word) p.layout (run_of now) y.sound)
 
       rest : IsBetweenCalls p.layout p.number.0 (run_of now) (share_of m.run)
-      rest = rests_between (call_of p x called) (run_of now) (share_of m.run) y.answers.rests
+      rest = rests_between (call_of p x called) (run_of now) (share_of m.run) y.answers.rests (end ∙ x.rest.upper)
 
       -- whom it blames
       pub dict_blames : HasBlamed now
@@ -179,16 +177,16 @@ module _ {K V : Type 0} (valid_key : K → Type 0) (key : K → ℕ) (valid_valu
       dict_spends =
           let z = y.answers.spent in
           let tried : ℕ = tries_since p.number.0 (run_of now) (run_of (pass_view p)) in
-          let whole : z.left ≡ p.share = one_share (call_of p x called) (run_of (pass_view p)) z.left p.share z.first rests in
+          let whole : z.left ≡ p.share = one_share (call_of p x called) (run_of (pass_view p)) z.left p.share (sym z.end ∙ end) z.first rests in
           record {
             tried = z.tried;
             nodes = subst (λ (r : Remaining). r.nodes ≤ (share_of m.run).nodes + most_nodes (call_in m.run) * tried) whole z.nodes;
             scx = subst (λ (r : Remaining). r.scx ≤ (share_of m.run).scx + most_scx (call_in m.run) tried) whole z.scx;
             each = subst (λ (r : Remaining). r.nodes + most_nodes (call_in m.run) * (share_of m.run).scx ≤ (share_of m.run).nodes + most_nodes (call_in m.run) * r.scx) whole z.each;
-            gone_nodes = share_nodes p.layout p.number.0 (run_of now) (run_of (pass_view p)) p.share (share_of m.run) y.since x.rest.share rest.share;
-            gone_scx = share_scx p.layout p.number.0 (run_of now) (run_of (pass_view p)) p.share (share_of m.run) y.since x.rest.share rest.share;
-            end_nodes = rest.share.to_node ∙ sym x.rest.share.to_node;
-            end_scx = rest.share.to_scx ∙ sym x.rest.share.to_scx;
+            gone_nodes = share_nodes p.layout p.number.0 (run_of now) (run_of (pass_view p)) p.share (share_of m.run) y.since end x.rest.share rest.share;
+            gone_scx = share_scx p.layout p.number.0 (run_of now) (run_of (pass_view p)) p.share (share_of m.run) y.since end x.rest.share rest.share;
+            end_nodes = (one_end (share_of m.run) p.share end).0;
+            end_scx = (one_end (share_of m.run) p.share end).1;
           }
 
       -- what it answers
@@ -197,7 +195,7 @@ module _ {K V : Type 0} (valid_key : K → Type 0) (key : K → ℕ) (valid_valu
         where
           go : (told : Option MapReply) → TellsOfMap (call_of p x called) (run_of now) (call_in m.run) told → IsToldOf (pass_view p) now (call_in m.run) told
           go None z = tt
-          go (Some told) z = told_says (pass_view p) x.is_pass called refl s.table_id (share_of m.run) (planting_of s.me.0.passes) (known_of s.me.0.passes) (blamed_by_reply reply p.blamed) map_run y.since (call_in m.run) told rests y.answers.rests z
+          go (Some told) z = told_says (pass_view p) x.is_pass called refl s.table_id (share_of m.run) (planting_of s.me.0.passes) (known_of s.me.0.passes) (blamed_by_reply reply p.blamed) map_run y.since end (call_in m.run) told rests y.answers.rests z
 
       -- why it answers nothing
       pub dict_refuses : IsRefusalOf m.tries (pass_view p) now (call_in m.run) reply
@@ -207,6 +205,6 @@ module _ {K V : Type 0} (valid_key : K → Type 0) (key : K → ℕ) (valid_valu
           go (replies.Value v) z = tt
           go (replies.Pair v) z = tt
           go (replies.Pairs v) z = tt
-          go (replies.Full f) z = full_says (pass_view p) x.is_pass called refl s.table_id (share_of m.run) (planting_of s.me.0.passes) (known_of s.me.0.passes) (blamed_by_reply reply p.blamed) map_run y.since (call_in m.run) f rests z
-          go replies.NoMemory z = (z.0, nothing_says (pass_view p) x.is_pass called refl s.table_id (share_of m.run) (planting_of s.me.0.passes) (known_of s.me.0.passes) (blamed_by_reply reply p.blamed) map_run y.since z.1)
-          go (replies.Contended n u) z = lost_says (pass_view p) x.is_pass called refl s.table_id (share_of m.run) (planting_of s.me.0.passes) (known_of s.me.0.passes) (blamed_by_reply reply p.blamed) map_run y.since m.tries (call_in m.run) n.0 u.0 z
+          go (replies.Full f) z = full_says (pass_view p) x.is_pass called refl s.table_id (share_of m.run) (planting_of s.me.0.passes) (known_of s.me.0.passes) (blamed_by_reply reply p.blamed) map_run y.since end (call_in m.run) f rests z
+          go replies.NoMemory z = (z.0, nothing_says (pass_view p) x.is_pass called refl s.table_id (share_of m.run) (planting_of s.me.0.passes) (known_of s.me.0.passes) (blamed_by_reply reply p.blamed) map_run y.since end z.1)
+          go (replies.Contended n u) z = lost_says (pass_view p) x.is_pass called refl s.table_id (share_of m.run) (planting_of s.me.0.passes) (known_of s.me.0.passes) (blamed_by_reply reply p.blamed) map_run y.since end m.tries (call_in m.run) n.0 u.0 z

@@ -5,6 +5,7 @@ use Rattle.atomic_table.specs.declared.shared.Seat.{Seat}
 use Rattle.histories.specs.Common.{Layout, Mode, Row, Step, Remaining, History, Opened, ◌⊳◌, Extends, IsOwnScx, HasWon, IsWin, Lawful, log, owner, Call, IsRun, descriptor}
 use Rattle.arena.proofs.Lemmas.{ends_self, ends_trans, owner_is}
 use Rattle.histories.proofs.Lemmas.{IsOwned, Logs, UpdateWins, entry_of, facts_before, lawful_row, lawful_since, lawful_tail, logs, same as log_same, update_about, update_is_first, update_win, wins as log_wins, won_since}
+use Rattle.prims.specs.Shares.{IsUpperEnd}
 use Rattle.prims.proofs.Lemmas.{over_begins}
 use Rattle.ordered_map.specs.OrderedMap.{MapEdit}
 use Rattle.edits.specs.Known.{HasMade, RestsWith}
@@ -76,9 +77,9 @@ one_entered c h l m =
 
 -- What a call leaves
 
--- after an answer at which it rests with a share, the pass is between two calls
-pub rests_between : (c : Call) (h : History) (left : Remaining) → RestsWith c h left → IsBetweenCalls c.layout c.pass h left
-rests_between c h left x = record { share = x.share; over = over_begins c.layout c.pass left.next_scx h x.over }
+-- after an answer at which it rests with the upper end of its names, the pass is between two calls
+pub rests_between : (c : Call) (h : History) (left : Remaining) → RestsWith c h left → IsUpperEnd c.layout c.pass left → IsBetweenCalls c.layout c.pass h left
+rests_between c h left x upper = record { share = x.share; upper = upper; over = over_begins c.layout c.pass left.next_scx h x.over }
 
 -- a call of any machine has ended, and A holds of the run that its pass knows now
 pub record HasEnded (allows : Layout → History → ℕ → Type 0) {T : Type 0} (p : Inside T) (s : Seat ℕ SeatView) (number : ℕ) (A : History → Type 0) : Type 0 where

@@ -13,22 +13,21 @@ use Rattle.ordered_map.specs.Runs.{IsMapRun}
 use Rattle.ordered_map.proofs.MapLemmas.{run_since}
 use Rattle.prims.specs.Moments.{AreFinished}
 use Rattle.touching.specs.Left.{HasLeft, IsNamedByLeft}
-use Rattle.touching.proofs.Lemmas.{taken_scx_since, was_since}
+use Rattle.touching.proofs.Lemmas.{reached_stood, taken_scx_since, was_since}
 use Rattle.resting.specs.Dead.{IsLetGoScx, WasDoneWith}
 use Rattle.resting.specs.Records.{the_node}
-use Rattle.resting.proofs.Lemmas.{reached_stood}
 use Rattle.slots.specs.Held.{IsHeld}
 use Rattle.slots.specs.Lasting.{Lasting, slot_of, table_place}
 use Rattle.slots.proofs.Lemmas.{name_record, untaken_zero}
-use Rattle.forest.specs.TableRule.{ByOthers, history_of, past_of}
+use Rattle.forest.specs.TableRule.{ByOthers, history_of, past_of, seat_view}
 use Rattle.forest.specs.LastingMemory.{IsGone, IsHeldName, IsNoteSo, Present, RemembersNames, RemembersWell, record_at}
 use Rattle.forest.specs.LastingNotes.{IsIn, memory_done, memory_looked_at, memory_over, noted_as}
 use Rattle.forest.specs.LastingRule.{LearnsWith, TableLasts}
-use Rattle.forest.specs.declared.lasting_view.LastingView.{LastingView}
-use Rattle.forest.specs.declared.lasting_view.PassMemory.{PassMemory}
-use Rattle.forest.specs.declared.lasting_view.Noted.{Noted}
-use Rattle.forest.specs.declared.lasting_view.NoteView.TheVariants.{DoneWith, MarkedOrDead}
-use Rattle.forest.specs.declared.lasting_view.RecordNo.TheVariants.{Scx}
+use Rattle.forest.specs.declared.view.SeatView.{SeatView}
+use Rattle.forest.specs.declared.memory.PassMemory.{PassMemory}
+use Rattle.forest.specs.declared.memory.Noted.{Noted}
+use Rattle.forest.specs.declared.memory.NoteView.TheVariants.{DoneWith, MarkedOrDead}
+use Rattle.forest.specs.declared.memory.RecordNo.TheVariants.{Scx}
 use Rattle.forest.specs.declared.rule.Plot.{Plot}
 use Rattle.forest.specs.declared.view.SeatedPass.{SeatedPass}
 use Rattle.forest.proofs.LastingKept.{StaysUnborn}
@@ -105,7 +104,7 @@ unborn_info lay (r ⊳ h) n run never = go (change lay h r run.1.lawful) ∙ unb
 
 -- What the look at the place of a node's info tells, whoever is there: that of the node names
 -- another SCX-record, or the node is gone.
-module _ (allows : Layout → History → ℕ → Type 0) (t : Lasting) (planting : PlantingView) (stays : StaysUnborn t.lay) (st : State ℕ LastingView) (kept : TableLasts allows t planting st) (s j n : ℕ) (real : s ≢ 0) (finished : value (history_of planting kept.rows) (state s) ≢ 0) (is_member : member (history_of planting kept.rows) s j ≡ n) (other : slice_index st.words (table_place t (info n)) ≢ s) where
+module _ (allows : Layout → History → ℕ → Type 0) (t : Lasting) (planting : PlantingView) (stays : StaysUnborn t.lay) (st : State ℕ SeatView) (kept : TableLasts allows t planting st) (s j n : ℕ) (real : s ≢ 0) (finished : value (history_of planting kept.rows) (state s) ≢ 0) (is_member : member (history_of planting kept.rows) s j ≡ n) (other : slice_index st.words (table_place t (info n)) ≢ s) where
   abbrev h : History
   h = history_of planting kept.rows
 
@@ -134,30 +133,30 @@ module _ (allows : Layout → History → ℕ → Type 0) (t : Lasting) (plantin
 abbrev pub Looks : Layout → Type 0
 Looks lay = (h : History) (s : ℕ) → IsMapRun lay h → s ≢ 0 → ((j : ℕ) → j < count h s → WasDoneWith lay h s j) → IsNamedByLeft lay h s
 
-module _ (allows : Layout → History → ℕ → Type 0) (t : Lasting) (planting : PlantingView) (stays : StaysUnborn t.lay) (slots id : ℕ) (me : Me ℕ LastingView) (p : SeatedPass) (m : PassMemory) (one : me.0.passes ≡ p ∷ []) (recalled : me.0.memories ≡ m ∷ []) (s : ScxNo) (held : IsIn (Scx s) m.holds) (taken : IsTakenScx (past_of p []) s.0) (between : AreFinished p.layout p.number.0 0 (past_of p [])) where
-  module _ (st : State ℕ LastingView) (kept : TableLasts allows t planting st) (fits : get_elem? st.views id ≡ some me.0) where
+module _ (allows : Layout → History → ℕ → Type 0) (t : Lasting) (planting : PlantingView) (stays : StaysUnborn t.lay) (slots id : ℕ) (me : Me ℕ SeatView) (p : SeatedPass) (one : me.0.passes ≡ p ∷ []) (s : ScxNo) (held : IsIn (Scx s) p.memory.holds) (taken : IsTakenScx (past_of p []) s.0) (between : AreFinished p.layout p.number.0 0 (past_of p [])) where
+  module _ (st : State ℕ SeatView) (kept : TableLasts allows t planting st) (fits : get_elem? st.views id ≡ some me.0) where
     abbrev before : Present
-    before = now allows t planting st kept id me.0 fits p m one recalled
+    before = now allows t planting st kept id me.0 fits p one
 
-    recalls : RemembersWell t planting before p.number.0 p.rested m
-    recalls = well allows t planting st kept id me.0 fits p m one recalled
+    recalls : RemembersWell t planting before p.number.0 p.memory
+    recalls = well allows t planting st kept id me.0 fits p one
 
     mine : IsHeldName t p.number.0 before (Scx s)
-    mine = in_each (IsHeldName t p.number.0 before) (Scx s) m.holds held recalls.names.holds
+    mine = in_each (IsHeldName t p.number.0 before) (Scx s) p.memory.holds held recalls.names.holds
 
     real : s.0 ≢ 0
     real e = let from = mine.0.0.from in omega (arith, from, e)
 
     was_taken : IsTakenScx (history_of planting kept.rows) s.0
-    was_taken = taken_scx_since (history_of planting kept.rows) (history_of planting p.known) s.0 (behind_known allows t planting st kept id me.0 fits p m one recalled) (subst (λ (g : Plot). IsTakenScx (history_of g.planting p.known) s.0) (own allows t planting st kept id me.0 fits p m one recalled).1 taken)
+    was_taken = taken_scx_since (history_of planting kept.rows) (history_of planting p.known) s.0 (behind_known allows t planting st kept id me.0 fits p one) (subst (λ (g : Plot). IsTakenScx (history_of g.planting p.known) s.0) (own allows t planting st kept id me.0 fits p one).1 taken)
 
     finished : value (history_of planting kept.rows) (state s.0) ≢ 0
-    finished = over allows t planting st kept id me.0 fits p m one recalled between s.0 mine.0.0 real was_taken
+    finished = over allows t planting st kept id me.0 fits p one between s.0 mine.0.0 real was_taken
 
     -- its plan and its nodes are as the pass knows
     word_kept : (part : ScxWord) → ((q : ℕ) → same_word (scx q StateWord) (scx s.0 part) ≡ false) → ((q : ℕ) → same_word (scx q AllFrozen) (scx s.0 part) ≡ false) → value (history_of planting kept.rows) (scx s.0 part) ≡ value (past_of p []) (scx s.0 part)
     word_kept part no_state no_flag =
-        let owned = own allows t planting st kept id me.0 fits p m one recalled in
+        let owned = own allows t planting st kept id me.0 fits p one in
         ap (λ l. value (history_of planting l) (scx s.0 part)) owned.2.1
         ∙ own_word_behind t.lay planting p.number.0 s.0 part owned.2.0 p.known (subst (λ l. Lawful t.lay (history_of planting l)) owned.2.1 kept.sound.lawful) owned.2.2 mine.0.0 no_state no_flag
         ∙ ap (λ (g : Plot). value (history_of g.planting p.known) (scx s.0 part)) (sym owned.1)
@@ -169,11 +168,11 @@ module _ (allows : Layout → History → ℕ → Type 0) (t : Lasting) (plantin
     count_kept = ap count_of (word_kept Plan (λ q. scx_word_apart q s.0 StateWord Plan refl) (λ q. scx_word_apart q s.0 AllFrozen Plan refl))
 
     -- one note more
-    with_note : (n : Noted) → IsNoteSo t.lay planting p.number.0 before (record_at n.name) n.note → RemembersNames t planting before p.number.0 record m { notes = n ∷ m.notes }
+    with_note : (n : Noted) → IsNoteSo t.lay planting p.number.0 before (record_at n.name) n.note → RemembersNames t planting before p.number.0 record p.memory { notes = n ∷ p.memory.notes }
     with_note n so = let names = recalls.names in record { dealt = names.dealt; later = names.later; notes = (so, names.notes); polls = names.polls; holds = names.holds; empty = names.empty; zeros = names.zeros }
 
   -- a look at the place of the info of its j-th node, whoever is there
-  pub lasting_looked_at : (j n : ℕ) → member (past_of p []) s.0 j ≡ n → Allows (TableLasts allows t planting) slots id me (table_place t (info n)) (λ v. v) (λ v w. LearnsWith allows (λ rows. memory_looked_at m s j v) me.0 w.0 × (w.1 ≡ me.1))
+  pub lasting_looked_at : (j n : ℕ) → member (past_of p []) s.0 j ≡ n → Allows (TableLasts allows t planting) slots id me (table_place t (info n)) (λ v. v) (λ v w. LearnsWith allows (λ rows. memory_looked_at p.memory s j v) me.0 w.0 × (w.1 ≡ me.1))
   lasting_looked_at j n is st kept sized fits small = go (ℕ_discrete found s.0)
     where
       at : ℕ
@@ -182,45 +181,45 @@ module _ (allows : Layout → History → ℕ → Type 0) (t : Lasting) (plantin
       found : ℕ
       found = slice_index st.words at
 
-      go : Dec (found ≡ s.0) → (w : LastingView) × (a : Act ℕ) × Valid st.homes me.1 a × TableLasts allows t planting (stepped st at found id me.1 w a) × (LearnsWith allows (λ rows. memory_looked_at m s j found) me.0 w × (carried_after me.1 a ≡ me.1))
+      go : Dec (found ≡ s.0) → (w : SeatView) × (a : Act ℕ) × Valid st.homes me.1 a × TableLasts allows t planting (stepped st at found id me.1 w a) × (LearnsWith allows (λ rows. memory_looked_at p.memory s j found) me.0 w × (carried_after me.1 a ≡ me.1))
       go (yes e) = (
-        record { passes = aware allows t planting st kept id me.0 fits p m one recalled ∷ []; memories = m ∷ [] },
+        seat_view (aware allows t planting st kept id me.0 fits p one p.memory ∷ []),
         keeps,
         tt,
-        noted allows t planting stays st kept id me.0 fits p m one recalled at m refl refl (recalls st kept fits).names,
-        ((kept.rows, learnt allows t planting st kept id me.0 fits p m one recalled, rw (eq-eqb found s.0 e) refl), refl),
+        noted allows t planting stays st kept id me.0 fits p one at p.memory refl refl refl (recalls st kept fits).names,
+        ((kept.rows, learnt allows t planting st kept id me.0 fits p one (rw (eq-eqb found s.0 e) refl)), refl),
       )
       go (no d) = (
-        record { passes = aware allows t planting st kept id me.0 fits p m one recalled ∷ []; memories = record m { notes = noted_as (Scx s) (DoneWith j) ∷ m.notes } ∷ [] },
+        seat_view (aware allows t planting st kept id me.0 fits p one (record p.memory { notes = noted_as (Scx s) (DoneWith j) ∷ p.memory.notes }) ∷ []),
         keeps,
         tt,
-        noted allows t planting stays st kept id me.0 fits p m one recalled at record m { notes = noted_as (Scx s) (DoneWith j) ∷ m.notes } refl refl
+        noted allows t planting stays st kept id me.0 fits p one at record p.memory { notes = noted_as (Scx s) (DoneWith j) ∷ p.memory.notes } refl refl refl
             (with_note st kept fits (noted_as (Scx s) (DoneWith j)) (done_with allows t planting stays st kept s.0 j n (real st kept fits) (finished st kept fits) (member_kept st kept fits j ∙ is) d)),
-        ((kept.rows, learnt allows t planting st kept id me.0 fits p m one recalled, rw (ne_eqb found s.0 d) refl), refl),
+        ((kept.rows, learnt allows t planting st kept id me.0 fits p one (rw (ne_eqb found s.0 d) refl)), refl),
       )
 
   -- what the pass knows to be so without a look, at a load of any word
-  pub lasting_done : (at j : ℕ) → WasDoneWith p.layout (past_of p []) s.0 j → Allows (TableLasts allows t planting) slots id me at (λ v. v) (λ v w. LearnsWith allows (λ rows. memory_done m s j) me.0 w.0 × (w.1 ≡ me.1))
+  pub lasting_done : (at j : ℕ) → WasDoneWith p.layout (past_of p []) s.0 j → Allows (TableLasts allows t planting) slots id me at (λ v. v) (λ v w. LearnsWith allows (λ rows. memory_done p.memory s j) me.0 w.0 × (w.1 ≡ me.1))
   lasting_done at j x st kept sized fits small =
-      let owned = own allows t planting st kept id me.0 fits p m one recalled in
+      let owned = own allows t planting st kept id me.0 fits p one in
       let y : WasDoneWith t.lay (history_of planting p.known) s.0 j = subst (λ (g : Plot). WasDoneWith g.layout (history_of g.planting p.known) s.0 j) owned.1 x in
-      let so : WasDoneWith t.lay (history_of planting kept.rows) s.0 j = (y.0, ends_trans (history_of planting kept.rows) (history_of planting p.known) y.0 (behind_known allows t planting st kept id me.0 fits p m one recalled) y.1, y.2, y.3) in (
-        record { passes = aware allows t planting st kept id me.0 fits p m one recalled ∷ []; memories = memory_done m s j ∷ [] },
+      let so : WasDoneWith t.lay (history_of planting kept.rows) s.0 j = (y.0, ends_trans (history_of planting kept.rows) (history_of planting p.known) y.0 (behind_known allows t planting st kept id me.0 fits p one) y.1, y.2, y.3) in (
+        seat_view (aware allows t planting st kept id me.0 fits p one (memory_done p.memory s j) ∷ []),
         keeps,
         tt,
-        noted allows t planting stays st kept id me.0 fits p m one recalled at (memory_done m s j) refl refl (with_note st kept fits (noted_as (Scx s) (DoneWith j)) so),
-        ((kept.rows, learnt allows t planting st kept id me.0 fits p m one recalled, refl), refl),
+        noted allows t planting stays st kept id me.0 fits p one at (memory_done p.memory s j) refl refl refl (with_note st kept fits (noted_as (Scx s) (DoneWith j)) so),
+        ((kept.rows, learnt allows t planting st kept id me.0 fits p one refl), refl),
       )
 
   -- it is dead once it was done with each of its nodes, at a load of any word
-  pub lasting_over : Looks t.lay → (at : ℕ) → ((j : ℕ) → j < count (past_of p []) s.0 → IsIn (noted_as (Scx s) (DoneWith j)) m.notes) → Allows (TableLasts allows t planting) slots id me at (λ v. v) (λ v w. LearnsWith allows (memory_over m s) me.0 w.0 × (w.1 ≡ me.1))
+  pub lasting_over : Looks t.lay → (at : ℕ) → ((j : ℕ) → j < count (past_of p []) s.0 → IsIn (noted_as (Scx s) (DoneWith j)) p.memory.notes) → Allows (TableLasts allows t planting) slots id me at (λ v. v) (λ v w. LearnsWith allows (memory_over p.memory s) me.0 w.0 × (w.1 ≡ me.1))
   lasting_over looks at all st kept sized fits small =
       let h : History = history_of planting kept.rows in
-      let done : (j : ℕ) → j < count h s.0 → WasDoneWith t.lay h s.0 j = λ j less. in_each (λ n. IsNoteSo t.lay planting p.number.0 (before st kept fits) (record_at n.name) n.note) (noted_as (Scx s) (DoneWith j)) m.notes (all j (subst (λ c. j < c) (count_kept st kept fits) less)) (recalls st kept fits).names.notes in
+      let done : (j : ℕ) → j < count h s.0 → WasDoneWith t.lay h s.0 j = λ j less. in_each (λ n. IsNoteSo t.lay planting p.number.0 (before st kept fits) (record_at n.name) n.note) (noted_as (Scx s) (DoneWith j)) p.memory.notes (all j (subst (λ c. j < c) (count_kept st kept fits) less)) (recalls st kept fits).names.notes in
       let dead : IsLetGoScx t.lay h s.0 = record { real = real st kept fits; taken = was_taken st kept fits; finished = finished st kept fits; named = looks h s.0 kept.window.run (real st kept fits) done } in (
-        record { passes = aware allows t planting st kept id me.0 fits p m one recalled ∷ []; memories = memory_over m s kept.rows ∷ [] },
+        seat_view (aware allows t planting st kept id me.0 fits p one (memory_over p.memory s kept.rows) ∷ []),
         keeps,
         tt,
-        noted allows t planting stays st kept id me.0 fits p m one recalled at (memory_over m s kept.rows) refl refl (with_note st kept fits (noted_as (Scx s) (MarkedOrDead kept.rows)) (ends_self h, inr (dead, tt))),
-        ((kept.rows, learnt allows t planting st kept id me.0 fits p m one recalled, refl), refl),
+        noted allows t planting stays st kept id me.0 fits p one at (memory_over p.memory s kept.rows) refl refl refl (with_note st kept fits (noted_as (Scx s) (MarkedOrDead kept.rows)) (ends_self h, inr (dead, tt))),
+        ((kept.rows, learnt allows t planting st kept id me.0 fits p one refl), refl),
       )

@@ -1,5 +1,5 @@
 -- Moves that no word shows: a load, by which a pass comes to know the run, and remembers more.
-use Rattle.std.proofs.Common.{◌≡◌, ◌≢◌, ℕ, false, List, [], ◌∷◌, slice_index, slice_set, inl, inr, refl, sym, ◌∙◌, subst}
+use Rattle.std.proofs.Common.{◌≡◌, ◌≢◌, ℕ, false, List, [], ◌∷◌, slice_index, slice_set, inl, inr, refl, sym, ◌∙◌, ap, subst}
 use mathlib.Core.Option.{some}
 use lib.ListN.{get_elem?}
 use Rattle.atomic_table.specs.Table.{State}
@@ -13,12 +13,12 @@ use Rattle.slots.specs.Lasting.{Lasting}
 use Rattle.slots.specs.Window.{IsWindow}
 use Rattle.slots.proofs.Lemmas.{seen_moves}
 use Rattle.forest.specs.Passes.{Each}
-use Rattle.forest.specs.TableRule.{Owns, history_of, seated_pass}
+use Rattle.forest.specs.TableRule.{Owns, history_of, seat_view, seated_pass}
 use Rattle.forest.specs.LastingMemory.{AreHeldOrGone, Present, RememberWell, RemembersNames, RemembersWell, present}
 use Rattle.forest.specs.LastingNotes.{IsIn}
 use Rattle.forest.specs.LastingRule.{TableLasts, plot_in}
-use Rattle.forest.specs.declared.lasting_view.LastingView.{LastingView}
-use Rattle.forest.specs.declared.lasting_view.PassMemory.{PassMemory}
+use Rattle.forest.specs.declared.view.SeatView.{SeatView}
+use Rattle.forest.specs.declared.memory.PassMemory.{PassMemory}
 use Rattle.forest.specs.declared.view.SeatedPass.{SeatedPass}
 use Rattle.forest.proofs.LastingKept.{Later, Spares, StaysUnborn, remember_kept, remembers_kept, spared, views_kept}
 use Rattle.forest.proofs.LastingSeats.{apart, now, own, set_self, well}
@@ -37,35 +37,35 @@ later_moments t a next held moved w = record { run = w.run; within = ends_self a
 pub moments_stay : (t : Lasting) (h : History) (last : ℕ → History) → HaveRestedAt t.lay h last → HaveMovedOn t.lay h last last
 moments_stay t h last rested = record { rested = rested; within = λ o i. (rested o i).within; later = λ o i. ends_self (last o) }
 
-module _ (allows : Layout → History → ℕ → Type 0) (t : Lasting) (planting : PlantingView) (stays : StaysUnborn t.lay) (s : State ℕ LastingView) (kept : TableLasts allows t planting s) (id : ℕ) (v : LastingView) (fits : get_elem? s.views id ≡ some v) (p : SeatedPass) (m : PassMemory) (one : v.passes ≡ p ∷ []) (recalled : v.memories ≡ m ∷ []) (at : ℕ) where
+module _ (allows : Layout → History → ℕ → Type 0) (t : Lasting) (planting : PlantingView) (stays : StaysUnborn t.lay) (s : State ℕ SeatView) (kept : TableLasts allows t planting s) (id : ℕ) (v : SeatView) (fits : get_elem? s.views id ≡ some v) (p : SeatedPass) (one : v.passes ≡ p ∷ []) (at : ℕ) where
   abbrev before : Present
-  before = now allows t planting s kept id v fits p m one recalled
+  before = now allows t planting s kept id v fits p one
 
   -- what the table is after a load there, and what the pass remembers then
-  abbrev pub seen_by : (rested rows : List Row) → PassMemory → State ℕ LastingView
-  seen_by rested rows after = record { words = slice_set s.words at (slice_index s.words at); homes = s.homes; views = slice_set s.views id record { passes = seated_pass p.number.0 p.layout p.planting rested rows ∷ []; memories = after ∷ [] } }
+  abbrev pub seen_by : List Row → PassMemory → State ℕ SeatView
+  seen_by rows after = record { words = slice_set s.words at (slice_index s.words at); homes = s.homes; views = slice_set s.views id (seat_view (seated_pass p.number.0 p.layout p.planting after rows ∷ [])) }
 
-  module _ (words : List ℕ) (rested rows : List Row) (next : ℕ → History) (held : Held) (after : PassMemory)
+  module _ (words : List ℕ) (rows : List Row) (next : ℕ → History) (held : Held) (after : PassMemory)
       (sound : IsRun allows t.lay (history_of planting rows))
       (window : IsWindow t words (history_of planting rows) next held)
       (counts : CountsRests t words (history_of planting rows) kept.tally)
       (later : Later t before (present words (history_of planting rows) next held kept.tally))
       (rests : (q : ℕ) → q ≢ p.number.0 → kept.tally.away q ≡ false → next q ≡ kept.last q)
       (gone : AreHeldOrGone t (present words (history_of planting rows) next held kept.tally))
-      (mine : RemembersWell t planting (present words (history_of planting rows) next held kept.tally) p.number.0 rested after)
+      (mine : RemembersWell t planting (present words (history_of planting rows) next held kept.tally) p.number.0 after)
       (spares : (q : ℕ) → q ≢ p.number.0 → Spares t planting before (present words (history_of planting rows) next held kept.tally) later stays q)
       (grows : (j : ℕ) → j ≢ id → (ps : List SeatedPass) → Owns (plot_in t planting) kept.rows kept.owner j ps → Owns (plot_in t planting) rows kept.owner j ps) where
     abbrev there : Present
     there = present words (history_of planting rows) next held kept.tally
 
-    abbrev w : LastingView
-    w = record { passes = seated_pass p.number.0 p.layout p.planting rested rows ∷ []; memories = after ∷ [] }
+    abbrev w : SeatView
+    w = seat_view (seated_pass p.number.0 p.layout p.planting after rows ∷ [])
 
     owned : Owns (plot_in t planting) kept.rows kept.owner id (p ∷ [])
-    owned = own allows t planting s kept id v fits p m one recalled
+    owned = own allows t planting s kept id v fits p one
 
-    others : (q : ℕ) (before_rest : List Row) (n : PassMemory) → q ≢ p.number.0 → RemembersWell t planting before q before_rest n → RemembersWell t planting there q before_rest n
-    others q before_rest n d y = remembers_kept t planting before there later stays q before_rest n (spares q d) refl refl (rests q d) y
+    others : (q : ℕ) (n : PassMemory) → q ≢ p.number.0 → RemembersWell t planting before q n → RemembersWell t planting there q n
+    others q n d y = remembers_kept t planting before there later stays q n (spares q d) refl refl (rests q d) y
 
     -- the pass knows the run by then, and remembers so much
     pub goes_on : TableLasts allows t planting record { words = words; homes = s.homes; views = slice_set s.views id w }
@@ -81,29 +81,29 @@ module _ (allows : Layout → History → ℕ → Type 0) (t : Lasting) (plantin
       owner = kept.owner;
       passes = views_kept (λ j u. Owns (plot_in t planting) kept.rows kept.owner j u.passes) (λ j u. Owns (plot_in t planting) rows kept.owner j u.passes) s.views id w
           (owned.0, owned.1, ([], refl, tt), tt, tt) (λ j u other fit y. grows j other u.passes y) kept.passes;
-      memories = views_kept (λ j u. RememberWell t planting before u.passes u.memories) (λ j u. RememberWell t planting there u.passes u.memories) s.views id w
+      memories = views_kept (λ j u. RememberWell t planting before u.passes) (λ j u. RememberWell t planting there u.passes) s.views id w
           (mine, tt)
-          (λ j u other fit y. remember_kept t planting before there (λ q. q ≢ p.number.0) others kept.rows kept.owner j (λ q is. apart allows t planting s kept id v fits p m one recalled j q other is) u.passes u.memories (kept.passes j u fit) y)
+          (λ j u other fit y. remember_kept t planting before there (λ q. q ≢ p.number.0) others kept.rows kept.owner j (λ q is. apart allows t planting s kept id v fits p one j q other is) u.passes (kept.passes j u fit) y)
           kept.memories;
     }
 
   -- what a load shows of words is what they were
-  pub as_loaded : (rested rows : List Row) (after : PassMemory) → TableLasts allows t planting record { words = s.words; homes = s.homes; views = slice_set s.views id record { passes = seated_pass p.number.0 p.layout p.planting rested rows ∷ []; memories = after ∷ [] } } → TableLasts allows t planting (seen_by rested rows after)
-  as_loaded rested rows after x = subst (λ ws. TableLasts allows t planting record { words = ws; homes = s.homes; views = slice_set s.views id record { passes = seated_pass p.number.0 p.layout p.planting rested rows ∷ []; memories = after ∷ [] } }) (sym (set_self s.words at)) x
+  pub as_loaded : (rows : List Row) (after : PassMemory) → TableLasts allows t planting record { words = s.words; homes = s.homes; views = slice_set s.views id (seat_view (seated_pass p.number.0 p.layout p.planting after rows ∷ [])) } → TableLasts allows t planting (seen_by rows after)
+  as_loaded rows after x = subst (λ ws. TableLasts allows t planting record { words = ws; homes = s.homes; views = slice_set s.views id (seat_view (seated_pass p.number.0 p.layout p.planting after rows ∷ [])) }) (sym (set_self s.words at)) x
 
-  recalls : RemembersWell t planting before p.number.0 p.rested m
-  recalls = well allows t planting s kept id v fits p m one recalled
+  recalls : RemembersWell t planting before p.number.0 p.memory
+  recalls = well allows t planting s kept id v fits p one
 
   -- a pass remembers more, and nothing else goes on
-  pub noted : (after : PassMemory) → after.away ≡ m.away → after.often ≡ m.often → RemembersNames t planting before p.number.0 after → TableLasts allows t planting (seen_by p.rested kept.rows after)
-  noted after away often names =
+  pub noted : (after : PassMemory) → after.rested ≡ p.memory.rested → after.away ≡ p.memory.away → after.often ≡ p.memory.often → RemembersNames t planting before p.number.0 after → TableLasts allows t planting (seen_by kept.rows after)
+  noted after rested away often names =
       let moved = moments_stay t (history_of planting kept.rows) kept.last kept.window.rested in
       let later : Later t before before = later_moments t before kept.last kept.held moved kept.window in
-      as_loaded p.rested kept.rows after (goes_on s.words p.rested kept.rows kept.last kept.held after kept.sound kept.window kept.counts later (λ q d z. refl) kept.gone
+      as_loaded kept.rows after (goes_on s.words kept.rows kept.last kept.held after kept.sound kept.window kept.counts later (λ q d z. refl) kept.gone
       record {
         away = away ∙ recalls.away;
         often = often ∙ recalls.often;
-        rested = λ z. recalls.rested (sym away ∙ z);
+        rested = λ z. recalls.rested (sym away ∙ z) ∙ ap (history_of planting) (sym rested);
         names = names;
       }
       (λ q d. spared t planting before before later stays refl (λ u i none. refl) q)

@@ -21,12 +21,12 @@ use Rattle.forest.specs.Passes.{Each}
 use Rattle.forest.specs.TableRule.{Owns, history_of}
 use Rattle.forest.specs.LastingMemory.{HasPolledSo, IsEmptySlot, IsGone, IsGoneRecord, IsNoteSo, IsPollSo, IsZeroWord, Present, RememberWell, RemembersNames, RemembersWell, record_at}
 use Rattle.forest.specs.LastingRule.{plot_in}
-use Rattle.forest.specs.declared.lasting_view.LastingView.{LastingView}
-use Rattle.forest.specs.declared.lasting_view.PassMemory.{PassMemory}
-use Rattle.forest.specs.declared.lasting_view.NoteView.{NoteView}
-use Rattle.forest.specs.declared.lasting_view.NoteView.TheVariants.{MarkedOrDead, DeadBy, OutOfReach, DoneWith}
-use Rattle.forest.specs.declared.lasting_view.Polled.{Polled}
-use Rattle.forest.specs.declared.lasting_view.RecordNo.{RecordNo}
+use Rattle.forest.specs.declared.view.SeatView.{SeatView}
+use Rattle.forest.specs.declared.memory.PassMemory.{PassMemory}
+use Rattle.forest.specs.declared.memory.NoteView.{NoteView}
+use Rattle.forest.specs.declared.memory.NoteView.TheVariants.{MarkedOrDead, DeadBy, OutOfReach, DoneWith}
+use Rattle.forest.specs.declared.memory.Polled.{Polled}
+use Rattle.forest.specs.declared.memory.RecordNo.{RecordNo}
 use Rattle.forest.specs.declared.view.SeatedPass.{SeatedPass}
 
 final_since : (lay : Layout) (h m : History) (n : ℕ) → Lawful lay h → Extends h m → is_final (log lay m) n ≡ true → is_final (log lay h) n ≡ true
@@ -98,8 +98,8 @@ module _ (t : Lasting) (planting : PlantingView) (a b : Present) (x : Later t a 
     zeros = each_kept _ _ z.zeros m.zeros y.zeros;
   }
 
-  pub remembers_kept : (q : ℕ) (rested : List Row) (m : PassMemory) → Spares q → b.tally.away q ≡ a.tally.away q → b.tally.count q ≡ a.tally.count q → (a.tally.away q ≡ false → b.last q ≡ a.last q) → RemembersWell t planting a q rested m → RemembersWell t planting b q rested m
-  remembers_kept q rested m z away often rests y = record {
+  pub remembers_kept : (q : ℕ) (m : PassMemory) → Spares q → b.tally.away q ≡ a.tally.away q → b.tally.count q ≡ a.tally.count q → (a.tally.away q ≡ false → b.last q ≡ a.last q) → RemembersWell t planting a q m → RemembersWell t planting b q m
+  remembers_kept q m z away often rests y = record {
     away = y.away ∙ sym away;
     often = y.often ∙ sym often;
     rested = λ there. rests (sym y.away ∙ there) ∙ y.rested there;
@@ -118,16 +118,14 @@ spared t planting a b x stays same words q = record {
 -- The seats
 
 module _ (t : Lasting) (planting : PlantingView) (a b : Present) where
-  pub remember_kept : (ok : ℕ → Type 0) → ((q : ℕ) (rested : List Row) (m : PassMemory) → ok q → RemembersWell t planting a q rested m → RemembersWell t planting b q rested m) → (rows : List Row) (owner : ℕ → ℕ) (id : ℕ) → ((q : ℕ) → owner q ≡ id → ok q) → (ps : List SeatedPass) (ms : List PassMemory) → Owns (plot_in t planting) rows owner id ps → RememberWell t planting a ps ms → RememberWell t planting b ps ms
-  remember_kept ok f rows owner id is [] [] own y = tt
-  remember_kept ok f rows owner id is [] (m ∷ ms) own y = y
-  remember_kept ok f rows owner id is (p ∷ ps) [] own y = y
-  remember_kept ok f rows owner id is (p ∷ ps) (m ∷ ms) own y = (f p.number.0 p.rested m (is p.number.0 own.0) y.0, remember_kept ok f rows owner id is ps ms own.4 y.1)
+  pub remember_kept : (ok : ℕ → Type 0) → ((q : ℕ) (m : PassMemory) → ok q → RemembersWell t planting a q m → RemembersWell t planting b q m) → (rows : List Row) (owner : ℕ → ℕ) (id : ℕ) → ((q : ℕ) → owner q ≡ id → ok q) → (ps : List SeatedPass) → Owns (plot_in t planting) rows owner id ps → RememberWell t planting a ps → RememberWell t planting b ps
+  remember_kept ok f rows owner id is [] own y = tt
+  remember_kept ok f rows owner id is (p ∷ ps) own y = (f p.number.0 p.memory (is p.number.0 own.0) y.0, remember_kept ok f rows owner id is ps own.4 y.1)
 
 -- Views after the seat `id` has got the view w: what it holds of is shown, and what others have is
 -- kept
-module _ (P Q : ℕ → LastingView → Type 0) (views : List LastingView) (id : ℕ) (w : LastingView) (mine : Q id w) (others : (j : ℕ) (v : LastingView) → j ≢ id → get_elem? views j ≡ some v → P j v → Q j v) (all : (j : ℕ) (v : LastingView) → get_elem? views j ≡ some v → P j v) where
-  pub views_kept : (j : ℕ) (v : LastingView) → get_elem? (slice_set views id w) j ≡ some v → Q j v
+module _ (P Q : ℕ → SeatView → Type 0) (views : List SeatView) (id : ℕ) (w : SeatView) (mine : Q id w) (others : (j : ℕ) (v : SeatView) → j ≢ id → get_elem? views j ≡ some v → P j v → Q j v) (all : (j : ℕ) (v : SeatView) → get_elem? views j ≡ some v → P j v) where
+  pub views_kept : (j : ℕ) (v : SeatView) → get_elem? (slice_set views id w) j ≡ some v → Q j v
   views_kept j v e = ⊎_elim
       (λ (z : (j ≡ id) × (w ≡ v)). subst (Q j) z.1 (subst (λ i. Q i w) (sym z.0) mine))
       (λ (z : (j ≢ id) × (get_elem? views j ≡ some v)). others j v z.0 z.1 (all j v z.1))

@@ -11,13 +11,13 @@ use Rattle.planting.specs.Plantings.{PlantingView}
 use Rattle.slots.specs.Counts.{HasPolled, HasSeenRests, rests_place}
 use Rattle.slots.specs.Lasting.{Lasting}
 use Rattle.slots.proofs.Lemmas.{finds_away, polls, seen_now}
-use Rattle.forest.specs.TableRule.{history_of}
+use Rattle.forest.specs.TableRule.{history_of, seat_view}
 use Rattle.forest.specs.LastingMemory.{HasPolledSo, IsPollSo, Present, RemembersNames, RemembersWell, present}
 use Rattle.forest.specs.LastingNotes.{IsIn, memory_looked, memory_polled, waits_of}
 use Rattle.forest.specs.LastingRule.{LearnsWith, TableLasts}
-use Rattle.forest.specs.declared.lasting_view.LastingView.{LastingView}
-use Rattle.forest.specs.declared.lasting_view.PassMemory.{PassMemory}
-use Rattle.forest.specs.declared.lasting_view.Polled.{Polled}
+use Rattle.forest.specs.declared.view.SeatView.{SeatView}
+use Rattle.forest.specs.declared.memory.PassMemory.{PassMemory}
+use Rattle.forest.specs.declared.memory.Polled.{Polled}
 use Rattle.forest.specs.declared.view.SeatedPass.{SeatedPass}
 use Rattle.forest.proofs.LastingKept.{Later, StaysUnborn, names_kept, spared}
 use Rattle.forest.proofs.LastingGhosts.{as_loaded, goes_on, in_each, later_moments, noted, seen_by}
@@ -33,15 +33,15 @@ waits_even c =
 waits_odd : (c : ℕ) → waits_of (2 * c + 1) ≡ None
 waits_odd c = let odd : (2 * c + 1) % 2 ≡ 1 = omega arith in rw odd refl
 
-module _ (allows : Layout → History → ℕ → Type 0) (t : Lasting) (planting : PlantingView) (stays : StaysUnborn t.lay) (s : State ℕ LastingView) (kept : TableLasts allows t planting s) (id : ℕ) (v : LastingView) (fits : get_elem? s.views id ≡ some v) (p : SeatedPass) (m : PassMemory) (one : v.passes ≡ p ∷ []) (recalled : v.memories ≡ m ∷ []) (at : ℕ) (q : ℕ) where
+module _ (allows : Layout → History → ℕ → Type 0) (t : Lasting) (planting : PlantingView) (stays : StaysUnborn t.lay) (s : State ℕ SeatView) (kept : TableLasts allows t planting s) (id : ℕ) (v : SeatView) (fits : get_elem? s.views id ≡ some v) (p : SeatedPass) (one : v.passes ≡ p ∷ []) (at : ℕ) (q : ℕ) where
   abbrev h : History
   h = history_of planting kept.rows
 
   abbrev before : Present
-  before = now allows t planting s kept id v fits p m one recalled
+  before = now allows t planting s kept id v fits p one
 
-  recalls : RemembersWell t planting before p.number.0 p.rested m
-  recalls = well allows t planting s kept id v fits p m one recalled
+  recalls : RemembersWell t planting before p.number.0 p.memory
+  recalls = well allows t planting s kept id v fits p one
 
   -- what has been polled of q at a moment is remembered, by moments of rests that may have moved on
   module _ (since : History) (x : HasPolled t s.words (history_of planting kept.rows) kept.last kept.held kept.tally q since) (poll : Polled) (so : IsPollSo t.lay planting (present s.words (history_of planting kept.rows) x.next kept.held kept.tally) poll) where
@@ -58,11 +58,11 @@ module _ (allows : Layout → History → ℕ → Type 0) (t : Lasting) (plantin
         go (yes e) = subst (λ i. x.next i ≡ kept.last i) (sym e) (x.stays (subst (λ i. kept.tally.away i ≡ false) e here))
         go (no d) = x.others k d
 
-    names : RemembersNames t planting there p.number.0 m
-    names = names_kept t planting before there later stays p.number.0 m (spared t planting before there later stays refl (λ u i none. refl) p.number.0) recalls.names
+    names : RemembersNames t planting there p.number.0 p.memory
+    names = names_kept t planting before there later stays p.number.0 p.memory (spared t planting before there later stays refl (λ u i none. refl) p.number.0) recalls.names
 
-    pub remembered : TableLasts allows t planting (seen_by allows t planting stays s kept id v fits p m one recalled at p.rested kept.rows record m { polls = poll ∷ m.polls })
-    remembered = as_loaded allows t planting stays s kept id v fits p m one recalled at p.rested kept.rows record m { polls = poll ∷ m.polls } (goes_on allows t planting stays s kept id v fits p m one recalled at s.words p.rested kept.rows x.next kept.held record m { polls = poll ∷ m.polls }
+    pub remembered : TableLasts allows t planting (seen_by allows t planting stays s kept id v fits p one at kept.rows record p.memory { polls = poll ∷ p.memory.polls })
+    remembered = as_loaded allows t planting stays s kept id v fits p one at kept.rows record p.memory { polls = poll ∷ p.memory.polls } (goes_on allows t planting stays s kept id v fits p one at s.words kept.rows x.next kept.held record p.memory { polls = poll ∷ p.memory.polls }
         kept.sound x.window kept.counts later (λ k d. rests k)
         (all_gone t planting before there later stays refl refl kept.gone)
         record {
@@ -74,15 +74,15 @@ module _ (allows : Layout → History → ℕ → Type 0) (t : Lasting) (plantin
         (λ k d. spared t planting before there later stays refl (λ u i none. refl) k)
         (λ j d ps y. y))
 
-module _ (allows : Layout → History → ℕ → Type 0) (t : Lasting) (planting : PlantingView) (stays : StaysUnborn t.lay) (slots id : ℕ) (me : Me ℕ LastingView) (p : SeatedPass) (m : PassMemory) (one : me.0.passes ≡ p ∷ []) (recalled : me.0.memories ≡ m ∷ []) where
+module _ (allows : Layout → History → ℕ → Type 0) (t : Lasting) (planting : PlantingView) (stays : StaysUnborn t.lay) (slots id : ℕ) (me : Me ℕ SeatView) (p : SeatedPass) (one : me.0.passes ≡ p ∷ []) where
   -- a first look at the word of the pass q
-  pub lasting_looks : (q : ℕ) → q < t.lay.passes → Allows (TableLasts allows t planting) slots id me (rests_place t.table q) (λ n. n) (λ n w. LearnsWith allows (memory_looked m q n) me.0 w.0 × (w.1 ≡ me.1))
+  pub lasting_looks : (q : ℕ) → q < t.lay.passes → Allows (TableLasts allows t planting) slots id me (rests_place t.table q) (λ n. n) (λ n w. LearnsWith allows (memory_looked p.memory q n) me.0 w.0 × (w.1 ≡ me.1))
   lasting_looks q i s kept sized fits small = (
-    record { passes = aware allows t planting s kept id me.0 fits p m one recalled ∷ []; memories = memory_looked m q found kept.rows ∷ [] },
+    seat_view (aware allows t planting s kept id me.0 fits p one (memory_looked p.memory q found kept.rows) ∷ []),
     keeps,
     tt,
     go (kept.tally.away q) refl,
-    ((kept.rows, learnt allows t planting s kept id me.0 fits p m one recalled, refl), refl),
+    ((kept.rows, learnt allows t planting s kept id me.0 fits p one refl), refl),
   )
     where
       h : History
@@ -97,17 +97,17 @@ module _ (allows : Layout → History → ℕ → Type 0) (t : Lasting) (plantin
       poll : Polled
       poll = record { pass = record { 0 = q }; since = kept.rows; waits = waits_of found }
 
-      go : (b : Bool) → kept.tally.away q ≡ b → TableLasts allows t planting (seen_by allows t planting stays s kept id me.0 fits p m one recalled at p.rested kept.rows record m { polls = poll ∷ m.polls })
+      go : (b : Bool) → kept.tally.away q ≡ b → TableLasts allows t planting (seen_by allows t planting stays s kept id me.0 fits p one at kept.rows record p.memory { polls = poll ∷ p.memory.polls })
       go true e =
           let odd : found ≡ 2 * kept.tally.count q + 1 = kept.counts.holds q i ∙ ap (λ b. 2 * kept.tally.count q + bit b) e in
           let x = finds_away t s.words h kept.last kept.held kept.tally kept.window q (kept.tally.count q) kept.counts i odd in
           let none : waits_of found ≡ None = ap waits_of odd ∙ waits_odd (kept.tally.count q) in
-          remembered allows t planting stays s kept id me.0 fits p m one recalled at q h x poll (i, subst (HasPolledSo (present s.words h x.next kept.held kept.tally) q h) (sym none) x.since)
+          remembered allows t planting stays s kept id me.0 fits p one at q h x poll (i, subst (HasPolledSo (present s.words h x.next kept.held kept.tally) q h) (sym none) x.since)
       go false e =
           let even : found ≡ 2 * kept.tally.count q + 0 = kept.counts.holds q i ∙ ap (λ b. 2 * kept.tally.count q + bit b) e in
           let some_seen : waits_of found ≡ Some (kept.tally.count q) = ap waits_of even ∙ waits_even (kept.tally.count q) in
-          let names = (well allows t planting s kept id me.0 fits p m one recalled).names in
-          noted allows t planting stays s kept id me.0 fits p m one recalled at record m { polls = poll ∷ m.polls } refl refl record {
+          let names = (well allows t planting s kept id me.0 fits p one).names in
+          noted allows t planting stays s kept id me.0 fits p one at record p.memory { polls = poll ∷ p.memory.polls } refl refl refl record {
             dealt = names.dealt;
             later = names.later;
             notes = names.notes;
@@ -118,7 +118,7 @@ module _ (allows : Layout → History → ℕ → Type 0) (t : Lasting) (plantin
           }
 
   -- a later look at the word of a pass that had rested so often, by a poll
-  pub lasting_polls : (poll : Polled) (seen : ℕ) → IsIn poll m.polls → poll.waits ≡ Some seen → Allows (TableLasts allows t planting) slots id me (rests_place t.table poll.pass.0) (λ n. n) (λ n w. LearnsWith allows (λ rows. memory_polled m poll seen n) me.0 w.0 × (w.1 ≡ me.1))
+  pub lasting_polls : (poll : Polled) (seen : ℕ) → IsIn poll p.memory.polls → poll.waits ≡ Some seen → Allows (TableLasts allows t planting) slots id me (rests_place t.table poll.pass.0) (λ n. n) (λ n w. LearnsWith allows (λ rows. memory_polled p.memory poll seen n) me.0 w.0 × (w.1 ≡ me.1))
   lasting_polls poll seen there waits s kept sized fits small = go (ℕ_discrete found (2 * seen))
     where
       h : History
@@ -133,32 +133,32 @@ module _ (allows : Layout → History → ℕ → Type 0) (t : Lasting) (plantin
       found : ℕ
       found = slice_index s.words at
 
-      recalls : RemembersWell t planting (now allows t planting s kept id me.0 fits p m one recalled) p.number.0 p.rested m
-      recalls = well allows t planting s kept id me.0 fits p m one recalled
+      recalls : RemembersWell t planting (now allows t planting s kept id me.0 fits p one) p.number.0 p.memory
+      recalls = well allows t planting s kept id me.0 fits p one
 
-      polled : IsPollSo t.lay planting (now allows t planting s kept id me.0 fits p m one recalled) poll
-      polled = in_each (IsPollSo t.lay planting (now allows t planting s kept id me.0 fits p m one recalled)) poll m.polls there recalls.names.polls
+      polled : IsPollSo t.lay planting (now allows t planting s kept id me.0 fits p one) poll
+      polled = in_each (IsPollSo t.lay planting (now allows t planting s kept id me.0 fits p one)) poll p.memory.polls there recalls.names.polls
 
       since : History
       since = history_of planting poll.since
 
       often : HasSeenRests h kept.last kept.tally q since seen
-      often = subst (HasPolledSo (now allows t planting s kept id me.0 fits p m one recalled) q since) waits polled.1
+      often = subst (HasPolledSo (now allows t planting s kept id me.0 fits p one) q since) waits polled.1
 
-      go : Dec (found ≡ 2 * seen) → (w : LastingView) × (a : Act ℕ) × Valid s.homes me.1 a × TableLasts allows t planting (stepped s at found id me.1 w a) × (LearnsWith allows (λ rows. memory_polled m poll seen found) me.0 w × (carried_after me.1 a ≡ me.1))
+      go : Dec (found ≡ 2 * seen) → (w : SeatView) × (a : Act ℕ) × Valid s.homes me.1 a × TableLasts allows t planting (stepped s at found id me.1 w a) × (LearnsWith allows (λ rows. memory_polled p.memory poll seen found) me.0 w × (carried_after me.1 a ≡ me.1))
       go (yes e) = (
-        record { passes = aware allows t planting s kept id me.0 fits p m one recalled ∷ []; memories = m ∷ [] },
+        seat_view (aware allows t planting s kept id me.0 fits p one p.memory ∷ []),
         keeps,
         tt,
-        noted allows t planting stays s kept id me.0 fits p m one recalled at m refl refl recalls.names,
-        ((kept.rows, learnt allows t planting s kept id me.0 fits p m one recalled, rw (eq-eqb found (2 * seen) e) refl), refl),
+        noted allows t planting stays s kept id me.0 fits p one at p.memory refl refl refl recalls.names,
+        ((kept.rows, learnt allows t planting s kept id me.0 fits p one (rw (eq-eqb found (2 * seen) e) refl)), refl),
       )
       go (no d) =
           let x = polls t s.words h kept.last kept.held kept.tally kept.window q seen since kept.counts polled.0 often d in
           let more : Polled = record poll { waits = None } in (
-            record { passes = aware allows t planting s kept id me.0 fits p m one recalled ∷ []; memories = record m { polls = more ∷ m.polls } ∷ [] },
+            seat_view (aware allows t planting s kept id me.0 fits p one (record p.memory { polls = more ∷ p.memory.polls }) ∷ []),
             keeps,
             tt,
-            remembered allows t planting stays s kept id me.0 fits p m one recalled at q since x more (polled.0, x.since),
-            ((kept.rows, learnt allows t planting s kept id me.0 fits p m one recalled, rw (ne_eqb found (2 * seen) d) refl), refl),
+            remembered allows t planting stays s kept id me.0 fits p one at q since x more (polled.0, x.since),
+            ((kept.rows, learnt allows t planting s kept id me.0 fits p one (rw (ne_eqb found (2 * seen) d) refl)), refl),
           )

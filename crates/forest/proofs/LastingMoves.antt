@@ -13,12 +13,12 @@ use Rattle.resting.specs.Rests.{IsRowSince}
 use Rattle.slots.specs.Held.{IsHeld}
 use Rattle.slots.specs.Lasting.{IsOwnRecord, IsUntaken, Lasting, table_place}
 use Rattle.slots.specs.Window.{IsHeldStep, IsWindow}
-use Rattle.slots.proofs.Lemmas.{counts_rows, counts_stores, empty_apart, seen_rows, steps}
-use Rattle.forest.specs.TableRule.{Made, Owns, history_of, past_of, row, seated_pass}
+use Rattle.slots.proofs.Lemmas.{counts_rows, counts_stores, empty_apart, seen_rows, steps, untaken_fills}
+use Rattle.forest.specs.TableRule.{history_of, Made, Owns, past_of, row, seat_view, seated_pass}
 use Rattle.forest.specs.LastingMemory.{AreHeldOrGone, IsGone, Present, RememberWell, RemembersWell, present}
 use Rattle.forest.specs.LastingRule.{MayStepOn, TableLasts, plot_in}
-use Rattle.forest.specs.declared.lasting_view.LastingView.{LastingView}
-use Rattle.forest.specs.declared.lasting_view.PassMemory.{PassMemory}
+use Rattle.forest.specs.declared.view.SeatView.{SeatView}
+use Rattle.forest.specs.declared.memory.PassMemory.{PassMemory}
 use Rattle.forest.specs.declared.rule.CallStep.{CallStep}
 use Rattle.forest.specs.declared.rule.Plot.{Plot}
 use Rattle.forest.specs.declared.view.SeatedPass.{SeatedPass}
@@ -42,13 +42,12 @@ row_gone t planting now next r run same later stays held gone n taken = subst (�
     go (inl f) = inl (subst (IsHeld t now.held) (ap record_of f.2) held)
     go (inr old) = ⊎_elim inl (λ g. inr (gone_kept t planting now next later stays n g)) (gone n old)
 
-module _ (allows : Layout → History → ℕ → Type 0) (t : Lasting) (planting : PlantingView) (stays : StaysUnborn t.lay) (maps : (h : History) → IsRun allows t.lay h → IsMapRun t.lay h) (slots id : ℕ) (me : Me ℕ LastingView) (said : CallStep) (at : ℕ) (f told : ℕ → ℕ) (is : at ≡ table_place t said.step.word) (after : (n : ℕ) → f n ≡ word_after said.step.access n) (tells : (n : ℕ) → IsTold said.step.access n (told n)) where
-  pub lasting_moves : (p : SeatedPass) (m : PassMemory) → me.0.passes ≡ p ∷ [] → me.0.memories ≡ m ∷ [] → MayStepOn allows said p m → Allows (TableLasts allows t planting) slots id me at f (λ n w. Made allows said me.0.passes (told n) w.0.passes × (w.0.memories ≡ me.0.memories) × (w.1 ≡ me.1))
-  lasting_moves p m one recalled may s kept sized seat fits =
+module _ (allows : Layout → History → ℕ → Type 0) (t : Lasting) (planting : PlantingView) (stays : StaysUnborn t.lay) (maps : (h : History) → IsRun allows t.lay h → IsMapRun t.lay h) (slots id : ℕ) (me : Me ℕ SeatView) (said : CallStep) (at : ℕ) (f told : ℕ → ℕ) (is : at ≡ table_place t said.step.word) (after : (n : ℕ) → f n ≡ word_after said.step.access n) (tells : (n : ℕ) → IsTold said.step.access n (told n)) where
+  pub lasting_moves : (p : SeatedPass) → me.0.passes ≡ p ∷ [] → MayStepOn allows said p → Allows (TableLasts allows t planting) slots id me at f (λ n w. Made allows said me.0.passes (told n) w.0.passes × (w.1 ≡ me.1))
+  lasting_moves p one may s kept sized seat fits =
       let now : Present = present s.words (history_of planting kept.rows) kept.last kept.held kept.tally in
       let own : Owns (plot_in t planting) kept.rows kept.owner id (p ∷ []) = subst (λ ps. Owns (plot_in t planting) kept.rows kept.owner id ps) one (kept.passes id me.0 seat) in
-      let both : RememberWell t planting now (p ∷ []) (m ∷ []) = subst (λ ms. RememberWell t planting now (p ∷ []) ms) recalled (subst (λ ps. RememberWell t planting now ps me.0.memories) one (kept.memories id me.0 seat)) in
-      let well : RemembersWell t planting now p.number.0 p.rested m = both.0 in
+      let well : RemembersWell t planting now p.number.0 p.memory = (subst (RememberWell t planting now) one (kept.memories id me.0 seat)).0 in
       let h : History = history_of planting kept.rows in
       let others : List Row = own.2.0 in
       let e : past_of p others ≡ h = ap (λ (g : Plot). history_of g.planting (others ++ p.known)) own.1 ∙ ap (history_of planting) (sym own.2.1) in
@@ -58,12 +57,12 @@ module _ (allows : Layout → History → ℕ → Type 0) (t : Lasting) (plantin
       let r : Row = row p.number.0 said h in
       let sound : IsRun allows t.lay (r ⊳ h) = subst (λ k. IsRun allows t.lay (row p.number.0 said k ⊳ k)) e (subst (λ l. IsRun allows l (row p.number.0 said (past_of p others) ⊳ past_of p others)) lay_is then) in
       let call = may.of_call.call in
-      let start : Extends call.start (kept.last p.number.0) = subst (Extends call.start) (sym (well.rested may.there)) (subst (λ (g : Plot). Extends call.start (history_of g.planting p.rested)) own.1 may.of_call.since) in
+      let start : Extends call.start (kept.last p.number.0) = subst (Extends call.start) (sym (well.rested may.there)) (subst (λ (g : Plot). Extends call.start (history_of g.planting p.memory.rested)) own.1 may.of_call.since) in
       let step : IsMapStep call h r = subst (λ k. IsMapStep call k (row p.number.0 said k)) e (may.of_call.step others own.2.2 before) in
       let since : IsRowSince t.lay p.number.0 (kept.last p.number.0) h r = inl record { call = call; layout = may.of_call.layout ∙ lay_is; pass = may.of_call.pass; since = start; step = step } in
       let dealt : IsUntaken t.lay h (record_of said.step.word) → IsOwnRecord t.lay p.number.0 (record_of said.step.word) → IsHeld t kept.held (record_of said.step.word) =
       λ free its_own. well.names.dealt (record_of said.step.word) its_own
-      (may.dealt (may.fresh others own.2.2 before (subst (λ l. IsUntaken l (past_of p others) (record_of said.step.word)) (sym lay_is) (subst (λ k. IsUntaken t.lay k (record_of said.step.word)) (sym e) free)) (subst (λ l. IsOwnRecord l p.number.0 (record_of said.step.word)) (sym lay_is) its_own)))
+      (may.dealt (untaken_fills call h r step (subst (λ l. IsUntaken l h (record_of said.step.word)) (sym (may.of_call.layout ∙ lay_is)) free)))
       free in
       let made : IsHeldStep t s.words h kept.last kept.held r = steps t s.words h kept.last kept.held kept.window r (maps (r ⊳ h) sound) since dealt in
       let found : slice_index s.words at ≡ value h said.step.word = ap (slice_index s.words) is ∙ made.found in
@@ -76,10 +75,10 @@ module _ (allows : Layout → History → ℕ → Type 0) (t : Lasting) (plantin
       let later : Later t now next = row_later t now r words window in
       let left : (w : Word) → IsWord t.table w → kept.held (record_of w) ≡ None → slice_index words (place t.table w) ≡ slice_index s.words (place t.table w) =
       λ w i none. get_or-set_other s.words at (place t.table w) (f (slice_index s.words at)) 0 (λ q. empty_apart t kept.window.lasting kept.held kept.window.names w r.word i none (lawful_row t.lay h r sound.lawful).word made.held (sym (q ∙ is))) in
-      let well_now : (q : ℕ) (rested : List Row) (n : PassMemory) → RemembersWell t planting now q rested n → RemembersWell t planting next q rested n =
-      λ q rested n y. remembers_kept t planting now next later stays q rested n (spared t planting now next later stays refl left q) refl refl (λ z. refl) y in
-      let mine : SeatedPass = seated_pass p.number.0 p.layout p.planting p.rested (row p.number.0 said (past_of p others) ∷ (others ++ p.known)) in
-      let w : LastingView = record { passes = mine ∷ []; memories = me.0.memories } in
+      let well_now : (q : ℕ) (n : PassMemory) → RemembersWell t planting now q n → RemembersWell t planting next q n =
+      λ q n y. remembers_kept t planting now next later stays q n (spared t planting now next later stays refl left q) refl refl (λ z. refl) y in
+      let mine : SeatedPass = seated_pass p.number.0 p.layout p.planting p.memory (row p.number.0 said (past_of p others) ∷ (others ++ p.known)) in
+      let w : SeatView = seat_view (mine ∷ []) in
       let known : r ∷ kept.rows ≡ mine.known = ap (λ k. row p.number.0 said k ∷ kept.rows) (sym e) ∙ ap (λ (l : List Row). row p.number.0 said (past_of p others) ∷ l) own.2.1 in (
         w,
         keeps,
@@ -98,9 +97,9 @@ module _ (allows : Layout → History → ℕ → Type 0) (t : Lasting) (plantin
               (own.0, own.1, ([], known, tt), tt, tt)
               (λ j v other fit y. owns_more (plot_in t planting) kept.rows kept.owner j r (λ z. other (sym z ∙ own.0)) v.passes y)
               kept.passes;
-          memories = views_kept (λ j v. RememberWell t planting now v.passes v.memories) (λ j v. RememberWell t planting next v.passes v.memories) s.views id w
-              (subst (λ ms. RememberWell t planting next (mine ∷ []) ms) (sym recalled) (well_now p.number.0 p.rested m well, tt))
-              (λ j v other fit y. remember_kept t planting now next (λ q. Unit {0}) (λ q rested n z x. well_now q rested n x) kept.rows kept.owner j (λ q z. tt) v.passes v.memories (kept.passes j v fit) y)
+          memories = views_kept (λ j v. RememberWell t planting now v.passes) (λ j v. RememberWell t planting next v.passes) s.views id w
+              (well_now p.number.0 p.memory well, tt)
+              (λ j v other fit y. remember_kept t planting now next (λ q. Unit {0}) (λ q n z x. well_now q n x) kept.rows kept.owner j (λ q z. tt) v.passes (kept.passes j v fit) y)
               kept.memories;
         },
         (
@@ -114,7 +113,6 @@ module _ (allows : Layout → History → ℕ → Type 0) (t : Lasting) (plantin
             told = subst (λ n. IsTold said.step.access n (told (slice_index s.words at))) (found ∙ ap (λ k. value k said.step.word) (sym e)) (tells (slice_index s.words at));
             is = refl;
           },
-          refl,
           refl,
         ),
       )

@@ -10,7 +10,7 @@ use Rattle.planting.specs.Plantings.{PlantingView}
 use Rattle.ordered_map.specs.Paths.{WasInTree}
 use Rattle.ordered_map.specs.Runs.{IsMapRun}
 use Rattle.prims.specs.Moments.{AreFinished}
-use Rattle.touching.proofs.Lemmas.{taken_scx_since}
+use Rattle.touching.proofs.Lemmas.{never_stood, taken_scx_since}
 use Rattle.resting.specs.Records.{Record, record_of, the_node, the_scx}
 use Rattle.resting.specs.Rests.{HaveRestedAt, PassesOver, past_node, past_scx}
 use Rattle.resting.proofs.Lemmas.{never_more, row_keeps, taken_node_since}
@@ -19,12 +19,12 @@ use Rattle.slots.specs.Held.{Held, IsHeld}
 use Rattle.slots.specs.Lasting.{IsOwnRecord, IsUntaken, Lasting}
 use Rattle.slots.specs.Passing.{row_over}
 use Rattle.slots.specs.Window.{HasPassedOver}
-use Rattle.slots.proofs.Lemmas.{counts_rows, never_stood, node_rests, passes_node, passes_scx, scx_rests, seen_rows}
+use Rattle.slots.proofs.Lemmas.{counts_rows, node_rests, passes_node, passes_scx, scx_rests, seen_rows}
 use Rattle.forest.specs.TableRule.{Owns, history_of}
 use Rattle.forest.specs.LastingMemory.{IsDealt}
 use Rattle.forest.specs.LastingNames.{past_nodes, past_scxs, scx_rows}
 use Rattle.forest.specs.LastingRule.{plot_in}
-use Rattle.forest.specs.declared.lasting_view.PassMemory.{PassMemory}
+use Rattle.forest.specs.declared.memory.PassMemory.{PassMemory}
 use Rattle.forest.specs.declared.view.SeatedPass.{SeatedPass}
 use Rattle.forest.proofs.Moves.{owns_more}
 

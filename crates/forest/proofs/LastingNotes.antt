@@ -12,15 +12,15 @@ use Rattle.resting.specs.Records.{Record, the_node, the_scx}
 use Rattle.resting.specs.Rests.{AreSince, HaveRestedAt}
 use Rattle.slots.specs.Lasting.{Lasting}
 use Rattle.forest.specs.Passes.{Each}
-use Rattle.forest.specs.TableRule.{history_of}
+use Rattle.forest.specs.TableRule.{history_of, seat_view}
 use Rattle.forest.specs.LastingMemory.{IsGoneRecord, IsNoteSo, IsPollSo, Present, RemembersWell, record_at}
 use Rattle.forest.specs.LastingNotes.{HasRestedSince, IsBefore, IsIn, further, further_all, memory_noted, rested_poll}
 use Rattle.forest.specs.LastingRule.{LearnsWith, TableLasts}
-use Rattle.forest.specs.declared.lasting_view.LastingView.{LastingView}
-use Rattle.forest.specs.declared.lasting_view.PassMemory.{PassMemory}
-use Rattle.forest.specs.declared.lasting_view.Noted.{Noted}
-use Rattle.forest.specs.declared.lasting_view.NoteView.{NoteView}
-use Rattle.forest.specs.declared.lasting_view.NoteView.TheVariants.{MarkedOrDead, DeadBy, OutOfReach, DoneWith}
+use Rattle.forest.specs.declared.view.SeatView.{SeatView}
+use Rattle.forest.specs.declared.memory.PassMemory.{PassMemory}
+use Rattle.forest.specs.declared.memory.Noted.{Noted}
+use Rattle.forest.specs.declared.memory.NoteView.{NoteView}
+use Rattle.forest.specs.declared.memory.NoteView.TheVariants.{MarkedOrDead, DeadBy, OutOfReach, DoneWith}
 use Rattle.forest.specs.declared.rule.Plot.{Plot}
 use Rattle.forest.specs.declared.view.SeatedPass.{SeatedPass}
 use Rattle.forest.proofs.LastingKept.{StaysUnborn}
@@ -70,30 +70,30 @@ rested_since : (t : Lasting) (planting : PlantingView) (a : Present) (m : PassMe
 rested_since t planting a m snapshot polls o own_rest others q i (yes e) = subst (λ k. Extends (a.last k) (history_of planting snapshot)) (sym e) own_rest
 rested_since t planting a m snapshot polls o own_rest others q i (no d) = let poll = others q i d in ends_trans (a.last q) (history_of planting poll.0) (history_of planting snapshot) (in_each (IsPollSo t.lay planting a) (rested_poll q poll.0) m.polls poll.1 polls).1 poll.2
 
-module _ (allows : Layout → History → ℕ → Type 0) (t : Lasting) (planting : PlantingView) (stays : StaysUnborn t.lay) (known : Periods t.lay) (slots id : ℕ) (me : Me ℕ LastingView) (p : SeatedPass) (m : PassMemory) (one : me.0.passes ≡ p ∷ []) (recalled : me.0.memories ≡ m ∷ []) where
+module _ (allows : Layout → History → ℕ → Type 0) (t : Lasting) (planting : PlantingView) (stays : StaysUnborn t.lay) (known : Periods t.lay) (slots id : ℕ) (me : Me ℕ SeatView) (p : SeatedPass) (one : me.0.passes ≡ p ∷ []) where
   -- all have rested since the snapshot: these notes go on, at a load of any word
-  pub lasting_notes : (at : ℕ) (snapshot : List Row) (chosen : List Noted) → p.number.0 < t.lay.passes → HasRestedSince t.lay p m snapshot → Each (λ n. IsIn n m.notes × IsBefore p.planting (history_of p.planting snapshot) n.note) chosen → Allows (TableLasts allows t planting) slots id me at (λ n. n) (λ n w. LearnsWith allows (memory_noted m chosen) me.0 w.0 × (w.1 ≡ me.1))
+  pub lasting_notes : (at : ℕ) (snapshot : List Row) (chosen : List Noted) → p.number.0 < t.lay.passes → HasRestedSince t.lay p snapshot → Each (λ n. IsIn n p.memory.notes × IsBefore p.planting (history_of p.planting snapshot) n.note) chosen → Allows (TableLasts allows t planting) slots id me at (λ n. n) (λ n w. LearnsWith allows (memory_noted p.memory chosen) me.0 w.0 × (w.1 ≡ me.1))
   lasting_notes at snapshot chosen is_pass all picked s kept sized fits small =
       let o : ℕ = p.number.0 in
-      let before : Present = now allows t planting s kept id me.0 fits p m one recalled in
-      let recalls : RemembersWell t planting before o p.rested m = well allows t planting s kept id me.0 fits p m one recalled in
-      let owned = own allows t planting s kept id me.0 fits p m one recalled in
+      let before : Present = now allows t planting s kept id me.0 fits p one in
+      let recalls : RemembersWell t planting before o p.memory = well allows t planting s kept id me.0 fits p one in
+      let owned = own allows t planting s kept id me.0 fits p one in
       let same : p.planting ≡ planting = ap (λ (g : Plot). g.planting) owned.1 in
       let start : History = history_of planting snapshot in
-      let own_rest : Extends (kept.last o) start = subst (λ k. Extends k start) (sym (recalls.rested all.there)) (subst (λ g. Extends (history_of g p.rested) (history_of g snapshot)) same all.own) in
-      let since : AreSince t.lay kept.last start = λ q i. rested_since t planting before m snapshot recalls.names.polls o own_rest (λ k j d. let poll = all.others k j d in (poll.0, poll.1, subst (λ g. Extends (history_of g poll.0) (history_of g snapshot)) same poll.2)) q i (ℕ_discrete q o) in
+      let own_rest : Extends (kept.last o) start = subst (λ k. Extends k start) (sym (recalls.rested all.there)) (subst (λ g. Extends (history_of g p.memory.rested) (history_of g snapshot)) same all.own) in
+      let since : AreSince t.lay kept.last start = λ q i. rested_since t planting before p.memory snapshot recalls.names.polls o own_rest (λ k j d. let poll = all.others k j d in (poll.0, poll.1, subst (λ g. Extends (history_of g poll.0) (history_of g snapshot)) same poll.2)) q i (ℕ_discrete q o) in
       let names = recalls.names in (
-        record { passes = aware allows t planting s kept id me.0 fits p m one recalled ∷ []; memories = memory_noted m chosen kept.rows ∷ [] },
+        seat_view (aware allows t planting s kept id me.0 fits p one (memory_noted p.memory chosen kept.rows) ∷ []),
         keeps,
         tt,
-        noted allows t planting stays s kept id me.0 fits p m one recalled at (memory_noted m chosen kept.rows) refl refl record {
+        noted allows t planting stays s kept id me.0 fits p one at (memory_noted p.memory chosen kept.rows) refl refl refl record {
           dealt = names.dealt;
           later = names.later;
-          notes = notes_go_on t.lay planting known o is_pass kept.rows before refl kept.window.run kept.window.rested start (ends_trans (history_of planting kept.rows) (kept.last o) start (kept.window.rested o is_pass).within own_rest) since m.notes chosen names.notes (subst (λ g. Each (λ n. IsIn n m.notes × IsBefore g (history_of g snapshot) n.note) chosen) same picked);
+          notes = notes_go_on t.lay planting known o is_pass kept.rows before refl kept.window.run kept.window.rested start (ends_trans (history_of planting kept.rows) (kept.last o) start (kept.window.rested o is_pass).within own_rest) since p.memory.notes chosen names.notes (subst (λ g. Each (λ n. IsIn n p.memory.notes × IsBefore g (history_of g snapshot) n.note) chosen) same picked);
           polls = names.polls;
           holds = names.holds;
           empty = names.empty;
           zeros = names.zeros;
         },
-        ((kept.rows, learnt allows t planting s kept id me.0 fits p m one recalled, refl), refl),
+        ((kept.rows, learnt allows t planting s kept id me.0 fits p one refl), refl),
       )

@@ -11,23 +11,16 @@ use Rattle.slots.specs.Held.{Held, IsHeld, first_held}
 use Rattle.slots.specs.Lasting.{IsOwnName, IsOwnRecord, IsUntaken, Lasting, slot_of}
 use Rattle.slots.proofs.Lemmas.{counts_open, first_names, first_nodes_held, first_scx_held, node_lap, opens, scx_lap}
 use Rattle.forest.specs.Passes.{Each}
-use Rattle.forest.specs.TableRule.{Absent, Owns, new_passes}
+use Rattle.forest.specs.TableRule.{Owns, passes_with}
 use Rattle.forest.specs.LastingMemory.{IsDealt, IsHeldName, Present, RememberWell, RemembersWell, present}
 use Rattle.forest.specs.LastingRule.{TableLasts, plot_in}
-use Rattle.forest.specs.LastingViews.{OpensLasting, first_memories, first_memory, first_view, nodes_from, scx_from}
-use Rattle.forest.specs.declared.lasting_view.LastingView.{LastingView}
-use Rattle.forest.specs.declared.lasting_view.RecordNo.{RecordNo}
-use Rattle.forest.specs.declared.lasting_view.RecordNo.TheVariants.{Node, Scx}
+use Rattle.forest.specs.LastingOpening.{OpensLasting, first_memory, first_view, nodes_from, scx_from}
+use Rattle.forest.specs.declared.view.SeatView.{SeatView}
+use Rattle.forest.specs.declared.memory.RecordNo.{RecordNo}
+use Rattle.forest.specs.declared.memory.RecordNo.TheVariants.{Node, Scx}
 use Rattle.forest.specs.declared.rule.Plot.{Plot}
+use Rattle.forest.proofs.Deals.{owns_new}
 use Rattle.forest.proofs.LastingSlots.{one_record_owner, own_not_first}
-
-absent_below : (plot : Plot) (k from n : ℕ) → k < from → Absent k (new_passes plot from n)
-absent_below plot k from zero h = tt
-absent_below plot k from (suc n) h = ((λ e. omega (arith, e, h)), absent_below plot k (suc from) n (omega (arith, h)))
-
-owns_new : (plot : Plot) (from n : ℕ) → Owns plot [] (λ _. 0) 0 (new_passes plot from n)
-owns_new plot from zero = tt
-owns_new plot from (suc n) = (refl, refl, ([], refl, tt), absent_below plot from (suc from) n (omega arith), owns_new plot (suc from) n)
 
 each_both : {A : Type 0} (P : A → Type 0) (xs ys : List A) → Each P xs → Each P ys → Each P (xs ++ ys)
 each_both P [] ys a b = b
@@ -101,7 +94,7 @@ module _ (allows : Layout → History → ℕ → Type 0) (t : Lasting) (plantin
             let number : first_scx t.lay o + i ≡ s = cc in
             omega (arith, number, small)
 
-    first_well : RemembersWell t planting now o [] (first_memory t o)
+    first_well : RemembersWell t planting now o (first_memory t o)
     first_well = record {
       away = refl;
       often = refl;
@@ -117,11 +110,11 @@ module _ (allows : Layout → History → ℕ → Type 0) (t : Lasting) (plantin
       };
     }
 
-  all_well : (from n : ℕ) → from + n ≤ t.lay.passes → RememberWell t planting now (new_passes (plot_in t planting) from n) (first_memories t from n)
+  all_well : (from n : ℕ) → from + n ≤ t.lay.passes → RememberWell t planting now (passes_with (first_memory t) (plot_in t planting) from n)
   all_well from zero few = tt
   all_well from (suc n) few = (first_well from (omega (arith, few)), all_well (suc from) n (omega (arith, few)))
 
-  only : (P : ℕ → LastingView → Type 0) → P 0 (first_view t planting) → (j : ℕ) (v : LastingView) → get_elem? (first_view t planting ∷ []) j ≡ some v → P j v
+  only : (P : ℕ → SeatView → Type 0) → P 0 (first_view t planting) → (j : ℕ) (v : SeatView) → get_elem? (first_view t planting ∷ []) j ≡ some v → P j v
   only P y zero v e = subst (P 0) (some-injective (first_view t planting) v e) y
   only P y (suc j) v e = absurd (some-ne-none v (sym e))
 
@@ -136,6 +129,6 @@ module _ (allows : Layout → History → ℕ → Type 0) (t : Lasting) (plantin
     counts = counts_open t words start x.room x.zeros;
     gone = λ n z. absurd (none_taken planting n z);
     owner = λ _. 0;
-    passes = only (λ j v. Owns (plot_in t planting) [] (λ _. 0) j v.passes) (owns_new (plot_in t planting) 0 t.lay.passes);
-    memories = only (λ j v. RememberWell t planting now v.passes v.memories) (all_well 0 t.lay.passes (omega arith));
+    passes = only (λ j v. Owns (plot_in t planting) [] (λ _. 0) j v.passes) (owns_new (first_memory t) (plot_in t planting) 0 t.lay.passes);
+    memories = only (λ j v. RememberWell t planting now v.passes) (all_well 0 t.lay.passes (omega arith));
   }

@@ -16,8 +16,8 @@ use Rattle.slots.specs.Lasting.{Lasting}
 use Rattle.forest.specs.TableRule.{ByOthers, Owns, history_of, past_of, seated_pass}
 use Rattle.forest.specs.LastingMemory.{Present, RememberWell, RemembersWell, present}
 use Rattle.forest.specs.LastingRule.{HasLearnt, TableLasts, plot_in}
-use Rattle.forest.specs.declared.lasting_view.LastingView.{LastingView}
-use Rattle.forest.specs.declared.lasting_view.PassMemory.{PassMemory}
+use Rattle.forest.specs.declared.view.SeatView.{SeatView}
+use Rattle.forest.specs.declared.memory.PassMemory.{PassMemory}
 use Rattle.forest.specs.declared.rule.Plot.{Plot}
 use Rattle.forest.specs.declared.view.SeatedPass.{SeatedPass}
 
@@ -42,7 +42,7 @@ pub share_behind : (lay : Layout) (planting : PlantingView) (o : ℕ) (left : Re
 share_behind lay planting o left n s [] known is_pass l by x = x
 share_behind lay planting o left n s (r ∷ rs) known is_pass l by x = share_by_others lay (history_of planting (rs ++ known)) r o left n s l is_pass by.0 (share_behind lay planting o left n s rs known is_pass (lawful_tail lay (history_of planting (rs ++ known)) r l) by.1 x)
 
-module _ (allows : Layout → History → ℕ → Type 0) (t : Lasting) (planting : PlantingView) (s : State ℕ LastingView) (kept : TableLasts allows t planting s) (id : ℕ) (v : LastingView) (fits : get_elem? s.views id ≡ some v) (p : SeatedPass) (m : PassMemory) (one : v.passes ≡ p ∷ []) (recalled : v.memories ≡ m ∷ []) where
+module _ (allows : Layout → History → ℕ → Type 0) (t : Lasting) (planting : PlantingView) (s : State ℕ SeatView) (kept : TableLasts allows t planting s) (id : ℕ) (v : SeatView) (fits : get_elem? s.views id ≡ some v) (p : SeatedPass) (one : v.passes ≡ p ∷ []) where
   -- where the table is
   abbrev pub now : Present
   now = present s.words (history_of planting kept.rows) kept.last kept.held kept.tally
@@ -50,8 +50,8 @@ module _ (allows : Layout → History → ℕ → Type 0) (t : Lasting) (plantin
   pub own : Owns (plot_in t planting) kept.rows kept.owner id (p ∷ [])
   own = subst (λ ps. Owns (plot_in t planting) kept.rows kept.owner id ps) one (kept.passes id v fits)
 
-  pub well : RemembersWell t planting now p.number.0 p.rested m
-  well = (subst (λ ms. RememberWell t planting now (p ∷ []) ms) recalled (subst (λ ps. RememberWell t planting now ps v.memories) one (kept.memories id v fits))).0
+  pub well : RemembersWell t planting now p.number.0 p.memory
+  well = (subst (RememberWell t planting now) one (kept.memories id v fits)).0
 
   -- the run is what the pass knows, and rows of others
   pub here : past_of p own.2.0 ≡ history_of planting kept.rows
@@ -67,23 +67,16 @@ module _ (allows : Layout → History → ℕ → Type 0) (t : Lasting) (plantin
   pub over : AreFinished p.layout p.number.0 0 (past_of p []) → AreFinished t.lay p.number.0 0 (history_of planting kept.rows)
   over x = subst (AreFinished t.lay p.number.0 0) here (finished_behind t.lay p.planting p.number.0 own.2.0 p.known (subst (Lawful t.lay) (sym here) kept.sound.lawful) own.2.2 (subst (λ l. AreFinished l p.number.0 0 (past_of p [])) lay_is x))
 
-  -- the pass when it knows the whole run
-  abbrev pub aware : SeatedPass
-  aware = seated_pass p.number.0 p.layout p.planting p.rested kept.rows
+  -- the pass when it knows the whole run, and remembers so much
+  abbrev pub aware : PassMemory → SeatedPass
+  aware memory = seated_pass p.number.0 p.layout p.planting memory kept.rows
 
-  pub learnt : HasLearnt allows (λ old. old) v.passes kept.rows (aware ∷ [])
-  learnt = record { pass = p; others = own.2.0; was = one; by_others = own.2.2; rows_are = own.2.1; run = before; is = refl }
+  pub learnt : {after : List Row → PassMemory} {memory : PassMemory} → memory ≡ after kept.rows → HasLearnt allows after v.passes kept.rows (aware memory ∷ [])
+  learnt same = record { pass = p; others = own.2.0; was = one; by_others = own.2.2; rows_are = own.2.1; run = before; is = ap (λ memory. aware memory ∷ []) same }
 
-  -- and when it rests then
-  abbrev pub at_rest : SeatedPass
-  at_rest = seated_pass p.number.0 p.layout p.planting kept.rows kept.rows
-
-  pub learnt_at_rest : HasLearnt allows (λ old. kept.rows) v.passes kept.rows (at_rest ∷ [])
-  learnt_at_rest = record { pass = p; others = own.2.0; was = one; by_others = own.2.2; rows_are = own.2.1; run = before; is = refl }
-
-  -- it is of its seat, whenever it has rested last
-  pub owns_aware : (rested : List Row) → Owns (plot_in t planting) kept.rows kept.owner id (seated_pass p.number.0 p.layout p.planting rested kept.rows ∷ [])
-  owns_aware rested = (own.0, own.1, ([], refl, tt), tt, tt)
+  -- it is of its seat, whatever it remembers
+  pub owns_aware : (memory : PassMemory) → Owns (plot_in t planting) kept.rows kept.owner id (aware memory ∷ [])
+  owns_aware memory = (own.0, own.1, ([], refl, tt), tt, tt)
 
   -- a pass of another seat is another
   pub apart : (j q : ℕ) → j ≢ id → kept.owner q ≡ j → q ≢ p.number.0

@@ -16,15 +16,15 @@ use Rattle.slots.specs.Lasting.{Lasting, table_place}
 use Rattle.resting.specs.Dead.{HasLeftUnmarked}
 use Rattle.touching.proofs.Lemmas.{left_since}
 use Rattle.slots.specs.Held.{IsHeld}
-use Rattle.forest.specs.TableRule.{history_of, past_of}
+use Rattle.forest.specs.TableRule.{history_of, past_of, seat_view}
 use Rattle.forest.specs.LastingMemory.{IsGoneRecord, IsHeldName, Present, RemembersWell, record_at}
 use Rattle.forest.specs.LastingNotes.{IsIn, IsUnused, memory_marked, memory_unused, noted_as, memory_left}
 use Rattle.forest.specs.LastingRule.{LearnsWith, TableLasts, LoadsWord}
-use Rattle.forest.specs.declared.lasting_view.LastingView.{LastingView}
-use Rattle.forest.specs.declared.lasting_view.PassMemory.{PassMemory}
-use Rattle.forest.specs.declared.lasting_view.NoteView.TheVariants.{MarkedOrDead}
-use Rattle.forest.specs.declared.lasting_view.RecordNo.{RecordNo}
-use Rattle.forest.specs.declared.lasting_view.RecordNo.TheVariants.{Node}
+use Rattle.forest.specs.declared.view.SeatView.{SeatView}
+use Rattle.forest.specs.declared.memory.PassMemory.{PassMemory}
+use Rattle.forest.specs.declared.memory.NoteView.TheVariants.{MarkedOrDead}
+use Rattle.forest.specs.declared.memory.RecordNo.{RecordNo}
+use Rattle.forest.specs.declared.memory.RecordNo.TheVariants.{Node}
 use Rattle.forest.specs.declared.rule.Plot.{Plot}
 use Rattle.forest.specs.declared.view.SeatedPass.{SeatedPass}
 use Rattle.forest.proofs.LastingKept.{StaysUnborn}
@@ -32,18 +32,14 @@ use Rattle.forest.proofs.LastingGhosts.{in_each, noted}
 use Rattle.forest.proofs.LastingSeats.{aware, behind_known, learnt, now, own, well}
 use Rattle.forest.proofs.LastingSlots.{taken_since}
 
--- the planting of the seat's pass
-planted : (allows : Layout → History → ℕ → Type 0) (t : Lasting) (planting : PlantingView) (s : State ℕ LastingView) (kept : TableLasts allows t planting s) (id : ℕ) (v : LastingView) (fits : get_elem? s.views id ≡ some v) (p : SeatedPass) (m : PassMemory) (one : v.passes ≡ p ∷ []) (recalled : v.memories ≡ m ∷ []) (q : SeatedPass) → v.passes ≡ q ∷ [] → planting ≡ q.planting
-planted allows t planting s kept id v fits p m one recalled q is = sym (ap (λ (g : Plot). g.planting) (own allows t planting s kept id v fits q m is recalled).1)
-
 -- what was of no use is out of reach, and gone
 unused_out : (lay : Layout) (h : History) (last : ℕ → History) (o : ℕ) (x : Record) → o < lay.passes → IsUnused lay o x (last o) → IsOutOfReach lay h last x × IsGoneRecord lay h last x
 unused_out lay h last o (the_node n) i x = (unborn_out lay h last o n i x, inr (inr (o, i, x)))
 unused_out lay h last o (the_scx s) i x = (unnamed_out lay h last o s i x, tt)
 
-module _ (allows : Layout → History → ℕ → Type 0) (t : Lasting) (planting : PlantingView) (stays : StaysUnborn t.lay) (slots id : ℕ) (me : Me ℕ LastingView) (p : SeatedPass) (m : PassMemory) (one : me.0.passes ≡ p ∷ []) (recalled : me.0.memories ≡ m ∷ []) (is_pass : p.number.0 < t.lay.passes) where
+module _ (allows : Layout → History → ℕ → Type 0) (t : Lasting) (planting : PlantingView) (stays : StaysUnborn t.lay) (slots id : ℕ) (me : Me ℕ SeatView) (p : SeatedPass) (one : me.0.passes ≡ p ∷ []) (is_pass : p.number.0 < t.lay.passes) where
   -- a look at the mark of a node that an own slot holds
-  pub lasting_marks : (n : NodeNo) → IsIn (Node n) m.holds → IsTakenNode (past_of p []) n.0 → Allows (TableLasts allows t planting) slots id me (table_place t (node n.0 Marked)) (λ v. v) (λ v w. LearnsWith allows (memory_marked m (Node n) v) me.0 w.0 × (w.1 ≡ me.1))
+  pub lasting_marks : (n : NodeNo) → IsIn (Node n) p.memory.holds → IsTakenNode (past_of p []) n.0 → Allows (TableLasts allows t planting) slots id me (table_place t (node n.0 Marked)) (λ v. v) (λ v w. LearnsWith allows (memory_marked p.memory (Node n) v) me.0 w.0 × (w.1 ≡ me.1))
   lasting_marks n holds taken s kept sized fits small = go (ℕ_discrete found 0)
     where
       h : History
@@ -56,35 +52,35 @@ module _ (allows : Layout → History → ℕ → Type 0) (t : Lasting) (plantin
       found = slice_index s.words at
 
       before : Present
-      before = now allows t planting s kept id me.0 fits p m one recalled
+      before = now allows t planting s kept id me.0 fits p one
 
-      recalls : RemembersWell t planting before p.number.0 p.rested m
-      recalls = well allows t planting s kept id me.0 fits p m one recalled
+      recalls : RemembersWell t planting before p.number.0 p.memory
+      recalls = well allows t planting s kept id me.0 fits p one
 
       mine : IsHeldName t p.number.0 before (Node n)
-      mine = in_each (IsHeldName t p.number.0 before) (Node n) m.holds holds recalls.names.holds
+      mine = in_each (IsHeldName t p.number.0 before) (Node n) p.memory.holds holds recalls.names.holds
 
       shown : found ≡ value h (marked n.0)
       shown = kept.window.shows (node n.0 Marked) (own_node_inside t.lay p.number.0 n.0 is_pass mine.0.0) mine.1
 
       was_taken : IsTakenNode h n.0
-      was_taken = taken_since h (history_of planting p.known) (the_node n.0) (behind_known allows t planting s kept id me.0 fits p m one recalled) (subst (λ (g : Plot). IsTakenNode (history_of g.planting p.known) n.0) (own allows t planting s kept id me.0 fits p m one recalled).1 taken)
+      was_taken = taken_since h (history_of planting p.known) (the_node n.0) (behind_known allows t planting s kept id me.0 fits p one) (subst (λ (g : Plot). IsTakenNode (history_of g.planting p.known) n.0) (own allows t planting s kept id me.0 fits p one).1 taken)
 
-      go : Dec (found ≡ 0) → (w : LastingView) × (a : Act ℕ) × Valid s.homes me.1 a × TableLasts allows t planting (stepped s at found id me.1 w a) × (LearnsWith allows (memory_marked m (Node n) found) me.0 w × (carried_after me.1 a ≡ me.1))
+      go : Dec (found ≡ 0) → (w : SeatView) × (a : Act ℕ) × Valid s.homes me.1 a × TableLasts allows t planting (stepped s at found id me.1 w a) × (LearnsWith allows (memory_marked p.memory (Node n) found) me.0 w × (carried_after me.1 a ≡ me.1))
       go (yes e) = (
-        record { passes = aware allows t planting s kept id me.0 fits p m one recalled ∷ []; memories = m ∷ [] },
+        seat_view (aware allows t planting s kept id me.0 fits p one p.memory ∷ []),
         keeps,
         tt,
-        noted allows t planting stays s kept id me.0 fits p m one recalled at m refl refl recalls.names,
-        ((kept.rows, learnt allows t planting s kept id me.0 fits p m one recalled, rw (eq-eqb found 0 e) refl), refl),
+        noted allows t planting stays s kept id me.0 fits p one at p.memory refl refl refl recalls.names,
+        ((kept.rows, learnt allows t planting s kept id me.0 fits p one (rw (eq-eqb found 0 e) refl)), refl),
       )
       go (no d) =
           let names = recalls.names in
-          let after : PassMemory = record m { notes = noted_as (Node n) (MarkedOrDead kept.rows) ∷ m.notes } in (
-            record { passes = aware allows t planting s kept id me.0 fits p m one recalled ∷ []; memories = after ∷ [] },
+          let after : PassMemory = record p.memory { notes = noted_as (Node n) (MarkedOrDead kept.rows) ∷ p.memory.notes } in (
+            seat_view (aware allows t planting s kept id me.0 fits p one (after) ∷ []),
             keeps,
             tt,
-            noted allows t planting stays s kept id me.0 fits p m one recalled at after refl refl record {
+            noted allows t planting stays s kept id me.0 fits p one at after refl refl refl record {
               dealt = names.dealt;
               later = names.later;
               notes = ((ends_self h, inl record { taken = was_taken; mark = λ z. d (shown ∙ z) }), names.notes);
@@ -93,20 +89,20 @@ module _ (allows : Layout → History → ℕ → Type 0) (t : Lasting) (plantin
               empty = names.empty;
               zeros = names.zeros;
             },
-            ((kept.rows, learnt allows t planting s kept id me.0 fits p m one recalled, rw (ne_eqb found 0 d) refl), refl),
+            ((kept.rows, learnt allows t planting s kept id me.0 fits p one (rw (ne_eqb found 0 d) refl)), refl),
           )
 
   -- a name that was of no use to the pass as it rested, at a load of any word
-  pub lasting_unused : (at : ℕ) (name : RecordNo) → m.away ≡ false → IsUnused p.layout p.number.0 (record_at name) (history_of p.planting p.rested) → Allows (TableLasts allows t planting) slots id me at (λ n. n) (λ n w. LearnsWith allows (λ rows. memory_unused m name) me.0 w.0 × (w.1 ≡ me.1))
+  pub lasting_unused : (at : ℕ) (name : RecordNo) → p.memory.away ≡ false → IsUnused p.layout p.number.0 (record_at name) (history_of p.planting p.memory.rested) → Allows (TableLasts allows t planting) slots id me at (λ n. n) (λ n w. LearnsWith allows (λ rows. memory_unused p.memory name) me.0 w.0 × (w.1 ≡ me.1))
   lasting_unused at name there unused s kept sized fits small =
-      let before : Present = now allows t planting s kept id me.0 fits p m one recalled in
-      let recalls : RemembersWell t planting before p.number.0 p.rested m = well allows t planting s kept id me.0 fits p m one recalled in
+      let before : Present = now allows t planting s kept id me.0 fits p one in
+      let recalls : RemembersWell t planting before p.number.0 p.memory = well allows t planting s kept id me.0 fits p one in
       let names = recalls.names in
-      let here : IsUnused t.lay p.number.0 (record_at name) (kept.last p.number.0) = subst (IsUnused t.lay p.number.0 (record_at name)) (sym (recalls.rested there)) (subst (λ (g : Plot). IsUnused g.layout p.number.0 (record_at name) (history_of g.planting p.rested)) (own allows t planting s kept id me.0 fits p m one recalled).1 unused) in (
-        record { passes = aware allows t planting s kept id me.0 fits p m one recalled ∷ []; memories = memory_unused m name ∷ [] },
+      let here : IsUnused t.lay p.number.0 (record_at name) (kept.last p.number.0) = subst (IsUnused t.lay p.number.0 (record_at name)) (sym (recalls.rested there)) (subst (λ (g : Plot). IsUnused g.layout p.number.0 (record_at name) (history_of g.planting p.memory.rested)) (own allows t planting s kept id me.0 fits p one).1 unused) in (
+        seat_view (aware allows t planting s kept id me.0 fits p one (memory_unused p.memory name) ∷ []),
         keeps,
         tt,
-        noted allows t planting stays s kept id me.0 fits p m one recalled at (memory_unused m name) refl refl record {
+        noted allows t planting stays s kept id me.0 fits p one at (memory_unused p.memory name) refl refl refl record {
           dealt = names.dealt;
           later = names.later;
           notes = (unused_out t.lay (history_of planting kept.rows) kept.last p.number.0 (record_at name) is_pass here, names.notes);
@@ -115,21 +111,21 @@ module _ (allows : Layout → History → ℕ → Type 0) (t : Lasting) (plantin
           empty = names.empty;
           zeros = names.zeros;
         },
-        ((kept.rows, learnt allows t planting s kept id me.0 fits p m one recalled, refl), refl),
+        ((kept.rows, learnt allows t planting s kept id me.0 fits p one refl), refl),
       )
 
   -- a node that has left with no mark, as the pass knows, at a load of any word
-  pub lasting_left : (at : ℕ) (n : NodeNo) → HasLeftUnmarked (past_of p []) n.0 → Allows (TableLasts allows t planting) slots id me at (λ v. v) (λ v w. LearnsWith allows (λ rows. memory_left m n p.known) me.0 w.0 × (w.1 ≡ me.1))
+  pub lasting_left : (at : ℕ) (n : NodeNo) → HasLeftUnmarked (past_of p []) n.0 → Allows (TableLasts allows t planting) slots id me at (λ v. v) (λ v w. LearnsWith allows (λ rows. memory_left p.memory n p.known) me.0 w.0 × (w.1 ≡ me.1))
   lasting_left at n left s kept sized fits small =
       let h : History = history_of planting kept.rows in
       let then : History = history_of planting p.known in
-      let names = (well allows t planting s kept id me.0 fits p m one recalled).names in
-      let within : Extends h then = behind_known allows t planting s kept id me.0 fits p m one recalled in
-      let here : HasLeftUnmarked then n.0 = subst (λ (g : Plot). HasLeftUnmarked (history_of g.planting p.known) n.0) (own allows t planting s kept id me.0 fits p m one recalled).1 left in (
-        record { passes = aware allows t planting s kept id me.0 fits p m one recalled ∷ []; memories = memory_left m n p.known ∷ [] },
+      let names = (well allows t planting s kept id me.0 fits p one).names in
+      let within : Extends h then = behind_known allows t planting s kept id me.0 fits p one in
+      let here : HasLeftUnmarked then n.0 = subst (λ (g : Plot). HasLeftUnmarked (history_of g.planting p.known) n.0) (own allows t planting s kept id me.0 fits p one).1 left in (
+        seat_view (aware allows t planting s kept id me.0 fits p one (memory_left p.memory n p.known) ∷ []),
         keeps,
         tt,
-        noted allows t planting stays s kept id me.0 fits p m one recalled at (memory_left m n p.known) refl refl record {
+        noted allows t planting stays s kept id me.0 fits p one at (memory_left p.memory n p.known) refl refl refl record {
           dealt = names.dealt;
           later = names.later;
           notes = ((within, inr (inr (inl here), inr (inl (left_since t.lay h then n.0 kept.window.run within here.left)))), names.notes);
@@ -138,26 +134,25 @@ module _ (allows : Layout → History → ℕ → Type 0) (t : Lasting) (plantin
           empty = names.empty;
           zeros = names.zeros;
         },
-        ((kept.rows, learnt allows t planting s kept id me.0 fits p m one recalled, refl), refl),
+        ((kept.rows, learnt allows t planting s kept id me.0 fits p one refl), refl),
       )
 
   -- a load of a word of a name that an own slot holds
-  pub lasting_loads : (name : RecordNo) (u : Word) → IsIn name m.holds → record_of u ≡ record_at name → IsWord t.lay u → Allows (TableLasts allows t planting) slots id me (table_place t u) (λ v. v) (λ v w. LoadsWord allows m u v me.0 w.0 × (w.1 ≡ me.1))
+  pub lasting_loads : (name : RecordNo) (u : Word) → IsIn name p.memory.holds → record_of u ≡ record_at name → IsWord t.lay u → Allows (TableLasts allows t planting) slots id me (table_place t u) (λ v. v) (λ v w. LoadsWord allows p u v me.0 w.0 × (w.1 ≡ me.1))
   lasting_loads name u holds of_name inside s kept sized fits small =
-      let before : Present = now allows t planting s kept id me.0 fits p m one recalled in
-      let recalls : RemembersWell t planting before p.number.0 p.rested m = well allows t planting s kept id me.0 fits p m one recalled in
-      let mine : IsHeldName t p.number.0 before name = in_each (IsHeldName t p.number.0 before) name m.holds holds recalls.names.holds in
+      let before : Present = now allows t planting s kept id me.0 fits p one in
+      let recalls : RemembersWell t planting before p.number.0 p.memory = well allows t planting s kept id me.0 fits p one in
+      let mine : IsHeldName t p.number.0 before name = in_each (IsHeldName t p.number.0 before) name p.memory.holds holds recalls.names.holds in
       let shown : slice_index s.words (table_place t u) ≡ value (history_of planting kept.rows) u = kept.window.shows u inside (subst (IsHeld t kept.held) (sym of_name) mine.1) in (
-        record { passes = aware allows t planting s kept id me.0 fits p m one recalled ∷ []; memories = m ∷ [] },
+        seat_view (aware allows t planting s kept id me.0 fits p one p.memory ∷ []),
         keeps,
         tt,
-        noted allows t planting stays s kept id me.0 fits p m one recalled (table_place t u) m refl refl recalls.names,
+        noted allows t planting stays s kept id me.0 fits p one (table_place t u) p.memory refl refl refl recalls.names,
         (
           record {
             rows = kept.rows;
-            learnt = learnt allows t planting s kept id me.0 fits p m one recalled;
-            memory = refl;
-            value = λ q is. subst (λ (g : PlantingView). value (history_of g kept.rows) u ≡ slice_index s.words (table_place t u)) (planted allows t planting s kept id me.0 fits p m one recalled q is) (sym shown);
+            learnt = learnt allows t planting s kept id me.0 fits p one refl;
+            value = subst (λ (g : PlantingView). value (history_of g kept.rows) u ≡ slice_index s.words (table_place t u)) (sym (ap (λ (g : Plot). g.planting) (own allows t planting s kept id me.0 fits p one).1)) (sym shown);
           },
           refl,
         ),

@@ -20,16 +20,16 @@ use Rattle.slots.specs.Lasting.{IsFirstRecord, IsOwnRecord, IsUntaken, Lasting, 
 use Rattle.slots.specs.Window.{IsWindow}
 use Rattle.slots.proofs.Lemmas.{cleans, counts_stores, lets_go, place_inside, record_discrete, with_other, with_same}
 use Rattle.forest.specs.Passes.{Each}
-use Rattle.forest.specs.TableRule.{history_of, past_of}
+use Rattle.forest.specs.TableRule.{history_of, past_of, seat_view}
 use Rattle.forest.specs.LastingMemory.{AreHeldOrGone, IsDealt, IsEmptySlot, IsGone, IsGoneRecord, IsHeldName, IsNoteSo, IsZeroWord, Present, RemembersNames, RemembersWell, present, record_at}
 use Rattle.forest.specs.LastingNotes.{IsIn, noted_as}
 use Rattle.forest.specs.LastingRule.{LearnsWith, TableLasts}
-use Rattle.forest.specs.LastingSlots.{IsLastDealt, IsLeft, WasTaken, memory_cleared, memory_given_back, memory_let_go, memory_without, slot_number, without}
-use Rattle.forest.specs.declared.lasting_view.LastingView.{LastingView}
-use Rattle.forest.specs.declared.lasting_view.PassMemory.{PassMemory}
-use Rattle.forest.specs.declared.lasting_view.NoteView.TheVariants.{OutOfReach}
-use Rattle.forest.specs.declared.lasting_view.RecordNo.{RecordNo}
-use Rattle.forest.specs.declared.lasting_view.RecordNo.TheVariants.{Node, Scx}
+use Rattle.forest.specs.LastingSlots.{IsLastDealt, IsNotBefore, WasTaken, memory_cleared, memory_given_back, memory_let_go, memory_without, slot_number, without}
+use Rattle.forest.specs.declared.view.SeatView.{SeatView}
+use Rattle.forest.specs.declared.memory.PassMemory.{PassMemory}
+use Rattle.forest.specs.declared.memory.NoteView.TheVariants.{OutOfReach}
+use Rattle.forest.specs.declared.memory.RecordNo.{RecordNo}
+use Rattle.forest.specs.declared.memory.RecordNo.TheVariants.{Node, Scx}
 use Rattle.forest.specs.declared.rule.Plot.{Plot}
 use Rattle.forest.specs.declared.view.SeatedPass.{SeatedPass}
 use Rattle.forest.proofs.LastingKept.{Later, Spares, StaysUnborn, each_kept, note_kept, poll_kept}
@@ -79,10 +79,10 @@ dealt_same : (t : Lasting) (m : PassMemory) (name : RecordNo) (y : Record) → I
 dealt_same t m name (the_node n) d = d
 dealt_same t m name (the_scx s) d = d
 
--- what is left of a share, nobody has taken
-pub left_untaken : (lay : Layout) (h : History) (o : ℕ) (left : Remaining) (x : Record) → IsOwnRecord lay o x → IsLeft left x → IsShare lay h o left left.next_node left.next_scx → IsUntaken lay h x
-left_untaken lay h o left (the_node n) own is_left share = ((let a = own.from in omega (arith, a)), share.untaken_nodes n is_left)
-left_untaken lay h o left (the_scx s) own is_left share = ((λ e. let a = own.from in omega (arith, a, e)), share.untaken s is_left)
+-- what is not before what is left of a share, nobody has taken
+pub left_untaken : (lay : Layout) (h : History) (o : ℕ) (left : Remaining) (x : Record) → IsOwnRecord lay o x → IsNotBefore left x → IsShare lay h o left left.next_node left.next_scx → IsUntaken lay h x
+left_untaken lay h o left (the_node n) own is_left share = ((let a = own.from in omega (arith, a)), share.untaken_nodes n own is_left)
+left_untaken lay h o left (the_scx s) own is_left share = ((λ e. let a = own.from in omega (arith, a, e)), share.untaken s own is_left)
 
 -- What slots hold once one of them holds nothing
 
@@ -106,12 +106,12 @@ module _ (t : Lasting) (held : Held) (x : Record) (is : IsHeld t held x) where
 
 -- The slot of the name x, which is held, holds nothing from now on; names up to these two are
 -- dealt.
-module _ (allows : Layout → History → ℕ → Type 0) (t : Lasting) (planting : PlantingView) (stays : StaysUnborn t.lay) (s : State ℕ LastingView) (kept : TableLasts allows t planting s) (id : ℕ) (v : LastingView) (fits : get_elem? s.views id ≡ some v) (p : SeatedPass) (m : PassMemory) (one : v.passes ≡ p ∷ []) (recalled : v.memories ≡ m ∷ []) (at : ℕ) (name : RecordNo) (nodes_to scx_to : ℕ)
-    (mine : IsHeldName t p.number.0 (now allows t planting s kept id v fits p m one recalled) name)
+module _ (allows : Layout → History → ℕ → Type 0) (t : Lasting) (planting : PlantingView) (stays : StaysUnborn t.lay) (s : State ℕ SeatView) (kept : TableLasts allows t planting s) (id : ℕ) (v : SeatView) (fits : get_elem? s.views id ≡ some v) (p : SeatedPass) (one : v.passes ≡ p ∷ []) (at : ℕ) (name : RecordNo) (nodes_to scx_to : ℕ)
+    (mine : IsHeldName t p.number.0 (now allows t planting s kept id v fits p one) name)
     (reason : IsUntaken t.lay (history_of planting kept.rows) (record_at name) ⊎ IsOutOfReach t.lay (history_of planting kept.rows) kept.last (record_at name))
     (gone_then : (n : ℕ) → IsTakenNode (history_of planting kept.rows) n → the_node n ≡ record_at name → IsGone t.lay (history_of planting kept.rows) kept.last n)
-    (dealt_then : (y : Record) → IsOwnRecord t.lay p.number.0 y → IsDealt (memory_without t m name nodes_to scx_to) y → IsUntaken t.lay (history_of planting kept.rows) y → (¬ (y ≡ record_at name)) × IsDealt m y)
-    (undealt_then : (y : Record) → ¬ IsDealt (memory_without t m name nodes_to scx_to) y → (y ≡ record_at name) ⊎ (¬ IsDealt m y)) where
+    (dealt_then : (y : Record) → IsOwnRecord t.lay p.number.0 y → IsDealt (memory_without t p.memory name nodes_to scx_to) y → IsUntaken t.lay (history_of planting kept.rows) y → (¬ (y ≡ record_at name)) × IsDealt p.memory y)
+    (undealt_then : (y : Record) → ¬ IsDealt (memory_without t p.memory name nodes_to scx_to) y → (y ≡ record_at name) ⊎ (¬ IsDealt p.memory y)) where
   abbrev o : ℕ
   o = p.number.0
 
@@ -122,10 +122,10 @@ module _ (allows : Layout → History → ℕ → Type 0) (t : Lasting) (plantin
   h = history_of planting kept.rows
 
   abbrev before : Present
-  before = now allows t planting s kept id v fits p m one recalled
+  before = now allows t planting s kept id v fits p one
 
-  recalls : RemembersWell t planting before p.number.0 p.rested m
-  recalls = well allows t planting s kept id v fits p m one recalled
+  recalls : RemembersWell t planting before p.number.0 p.memory
+  recalls = well allows t planting s kept id v fits p one
 
   abbrev held : Held
   held = with_slot kept.held (slot_of t (record_at name)) None
@@ -156,15 +156,15 @@ module _ (allows : Layout → History → ℕ → Type 0) (t : Lasting) (plantin
   not_itself : ¬ IsHeld t held x
   not_itself is = let q : None ≡ Some x = sym (with_same kept.held (slot_of t x) None) ∙ is in cc
 
-  names : RemembersNames t planting there o (memory_without t m name nodes_to scx_to)
+  names : RemembersNames t planting there o (memory_without t p.memory name nodes_to scx_to)
   names = record {
     dealt = λ y its_own d free. let k = dealt_then y its_own d free in still_held t kept.held x mine.1 y k.0 (recalls.names.dealt y its_own k.1 free);
     later = λ y its_own d is. ⊎_elim (λ e. not_itself (subst (IsHeld t held) e is)) (λ k. never_held t kept.held x mine.1 y (recalls.names.later y its_own k) is) (undealt_then y d);
-    notes = each_kept _ _ (λ n. note_kept t planting before there later stays o (record_at n.name) n.note) m.notes recalls.names.notes;
-    polls = each_kept _ _ (poll_kept t planting before there later stays) m.polls recalls.names.polls;
-    holds = each_without (IsHeldName t o before) (IsHeldName t o there) x (λ n d e. (e.0, still_held t kept.held x mine.1 (record_at n) d e.1)) m.holds recalls.names.holds;
-    empty = ((subst (IsOwnRecord t.table o) (sym (slot_number_is t name)) mine.0.1, ap held (slot_number_is t name) ∙ with_same kept.held (slot_of t x) None), each_kept _ _ (empty_kept o) m.empty recalls.names.empty);
-    zeros = each_kept _ _ (zeros_kept o) m.zeros recalls.names.zeros;
+    notes = each_kept _ _ (λ n. note_kept t planting before there later stays o (record_at n.name) n.note) p.memory.notes recalls.names.notes;
+    polls = each_kept _ _ (poll_kept t planting before there later stays) p.memory.polls recalls.names.polls;
+    holds = each_without (IsHeldName t o before) (IsHeldName t o there) x (λ n d e. (e.0, still_held t kept.held x mine.1 (record_at n) d e.1)) p.memory.holds recalls.names.holds;
+    empty = ((subst (IsOwnRecord t.table o) (sym (slot_number_is t name)) mine.0.1, ap held (slot_number_is t name) ∙ with_same kept.held (slot_of t x) None), each_kept _ _ (empty_kept o) p.memory.empty recalls.names.empty);
+    zeros = each_kept _ _ (zeros_kept o) p.memory.zeros recalls.names.zeros;
   }
 
   spares : (q : ℕ) → q ≢ p.number.0 → Spares t planting before there later stays q
@@ -175,42 +175,42 @@ module _ (allows : Layout → History → ℕ → Type 0) (t : Lasting) (plantin
     zeros = zeros_kept q;
   }
 
-  pub let_go_then : TableLasts allows t planting (seen_by allows t planting stays s kept id v fits p m one recalled at p.rested kept.rows (memory_without t m name nodes_to scx_to))
-  let_go_then = as_loaded allows t planting stays s kept id v fits p m one recalled at p.rested kept.rows (memory_without t m name nodes_to scx_to)
-      (goes_on allows t planting stays s kept id v fits p m one recalled at s.words p.rested kept.rows kept.last held (memory_without t m name nodes_to scx_to) kept.sound window kept.counts later (λ q d z. refl) gone
+  pub let_go_then : TableLasts allows t planting (seen_by allows t planting stays s kept id v fits p one at kept.rows (memory_without t p.memory name nodes_to scx_to))
+  let_go_then = as_loaded allows t planting stays s kept id v fits p one at kept.rows (memory_without t p.memory name nodes_to scx_to)
+      (goes_on allows t planting stays s kept id v fits p one at s.words kept.rows kept.last held (memory_without t p.memory name nodes_to scx_to) kept.sound window kept.counts later (λ q d z. refl) gone
       record { away = recalls.away; often = recalls.often; rested = recalls.rested; names = names }
       spares (λ j d ps y. y))
 
-module _ (allows : Layout → History → ℕ → Type 0) (t : Lasting) (planting : PlantingView) (stays : StaysUnborn t.lay) (slots id : ℕ) (me : Me ℕ LastingView) (p : SeatedPass) (m : PassMemory) (one : me.0.passes ≡ p ∷ []) (recalled : me.0.memories ≡ m ∷ []) where
+module _ (allows : Layout → History → ℕ → Type 0) (t : Lasting) (planting : PlantingView) (stays : StaysUnborn t.lay) (slots id : ℕ) (me : Me ℕ SeatView) (p : SeatedPass) (one : me.0.passes ≡ p ∷ []) where
   -- the slot of a name that is out of reach holds nothing from now on, at a load of any word
-  pub lasting_lets_go : (at : ℕ) (name : RecordNo) → IsIn name m.holds → IsIn (noted_as name OutOfReach) m.notes → WasTaken (past_of p []) (record_at name) → Allows (TableLasts allows t planting) slots id me at (λ n. n) (λ n w. LearnsWith allows (λ rows. memory_let_go t m name) me.0 w.0 × (w.1 ≡ me.1))
+  pub lasting_lets_go : (at : ℕ) (name : RecordNo) → IsIn name p.memory.holds → IsIn (noted_as name OutOfReach) p.memory.notes → WasTaken (past_of p []) (record_at name) → Allows (TableLasts allows t planting) slots id me at (λ n. n) (λ n w. LearnsWith allows (λ rows. memory_let_go t p.memory name) me.0 w.0 × (w.1 ≡ me.1))
   lasting_lets_go at name held_name noted_so taken s kept sized fits small =
       let o : ℕ = p.number.0 in
       let x : Record = record_at name in
       let h : History = history_of planting kept.rows in
-      let before : Present = now allows t planting s kept id me.0 fits p m one recalled in
-      let recalls : RemembersWell t planting before o p.rested m = well allows t planting s kept id me.0 fits p m one recalled in
-      let mine : IsHeldName t o before name = in_each (IsHeldName t o before) name m.holds held_name recalls.names.holds in
-      let out : IsNoteSo t.lay planting o before x OutOfReach = in_each (λ n. IsNoteSo t.lay planting o before (record_at n.name) n.note) (noted_as name OutOfReach) m.notes noted_so recalls.names.notes in
-      let was_taken : WasTaken h x = taken_since h (history_of planting p.known) x (behind_known allows t planting s kept id me.0 fits p m one recalled) (subst (λ (g : Plot). WasTaken (history_of g.planting p.known) x) (own allows t planting s kept id me.0 fits p m one recalled).1 taken) in (
-        record { passes = aware allows t planting s kept id me.0 fits p m one recalled ∷ []; memories = memory_let_go t m name ∷ [] },
+      let before : Present = now allows t planting s kept id me.0 fits p one in
+      let recalls : RemembersWell t planting before o p.memory = well allows t planting s kept id me.0 fits p one in
+      let mine : IsHeldName t o before name = in_each (IsHeldName t o before) name p.memory.holds held_name recalls.names.holds in
+      let out : IsNoteSo t.lay planting o before x OutOfReach = in_each (λ n. IsNoteSo t.lay planting o before (record_at n.name) n.note) (noted_as name OutOfReach) p.memory.notes noted_so recalls.names.notes in
+      let was_taken : WasTaken h x = taken_since h (history_of planting p.known) x (behind_known allows t planting s kept id me.0 fits p one) (subst (λ (g : Plot). WasTaken (history_of g.planting p.known) x) (own allows t planting s kept id me.0 fits p one).1 taken) in (
+        seat_view (aware allows t planting s kept id me.0 fits p one (memory_let_go t p.memory name) ∷ []),
         keeps,
         tt,
-        let_go_then allows t planting stays s kept id me.0 fits p m one recalled at name m.nodes_to m.scx_to mine (inr out.0)
+        let_go_then allows t planting stays s kept id me.0 fits p one at name p.memory.nodes_to p.memory.scx_to mine (inr out.0)
             (λ n z e. subst (IsGoneRecord t.lay h kept.last) (sym e) out.1)
-            (λ y its_own d free. ((λ e. not_taken t.lay h y free (subst (WasTaken h) (sym e) was_taken)), same_dealt t m name y d))
-            (λ y d. inr (λ z. d (dealt_same t m name y z))),
-        ((kept.rows, learnt allows t planting s kept id me.0 fits p m one recalled, refl), refl),
+            (λ y its_own d free. ((λ e. not_taken t.lay h y free (subst (WasTaken h) (sym e) was_taken)), same_dealt t p.memory name y d))
+            (λ y d. inr (λ z. d (dealt_same t p.memory name y z))),
+        ((kept.rows, learnt allows t planting s kept id me.0 fits p one refl), refl),
       )
 
   -- The last name that is dealt is given back, if the pass has it left of its share.
-  pub lasting_gives_back : (at : ℕ) (name : RecordNo) (left : Remaining) → p.number.0 < t.lay.passes → IsIn name m.holds → IsLastDealt m (record_at name) → IsShare p.layout (past_of p []) p.number.0 left left.next_node left.next_scx → IsLeft left (record_at name) → Allows (TableLasts allows t planting) slots id me at (λ n. n) (λ n w. LearnsWith allows (λ rows. memory_given_back t m name) me.0 w.0 × (w.1 ≡ me.1))
+  pub lasting_gives_back : (at : ℕ) (name : RecordNo) (left : Remaining) → p.number.0 < t.lay.passes → IsIn name p.memory.holds → IsLastDealt p.memory (record_at name) → IsShare p.layout (past_of p []) p.number.0 left left.next_node left.next_scx → IsNotBefore left (record_at name) → Allows (TableLasts allows t planting) slots id me at (λ n. n) (λ n w. LearnsWith allows (λ rows. memory_given_back t p.memory name) me.0 w.0 × (w.1 ≡ me.1))
   lasting_gives_back at name left is_pass held_name is_last share its_left s kept sized fits small = (
-    record { passes = aware allows t planting s kept id me.0 fits p m one recalled ∷ []; memories = memory_given_back t m name ∷ [] },
+    seat_view (aware allows t planting s kept id me.0 fits p one (memory_given_back t p.memory name) ∷ []),
     keeps,
     tt,
     given name its_left is_last mine untaken,
-    ((kept.rows, learnt allows t planting s kept id me.0 fits p m one recalled, refl), refl),
+    ((kept.rows, learnt allows t planting s kept id me.0 fits p one refl), refl),
   )
     where
       o : ℕ
@@ -220,16 +220,16 @@ module _ (allows : Layout → History → ℕ → Type 0) (t : Lasting) (plantin
       h = history_of planting kept.rows
 
       before : Present
-      before = now allows t planting s kept id me.0 fits p m one recalled
+      before = now allows t planting s kept id me.0 fits p one
 
       mine : IsHeldName t o before name
-      mine = in_each (IsHeldName t o before) name m.holds held_name (well allows t planting s kept id me.0 fits p m one recalled).names.holds
+      mine = in_each (IsHeldName t o before) name p.memory.holds held_name (well allows t planting s kept id me.0 fits p one).names.holds
 
       untaken : IsUntaken t.lay h (record_at name)
-      untaken = left_untaken t.lay h o left (record_at name) mine.0.0 its_left (share_now allows t planting s kept id me.0 fits p m one recalled left is_pass share)
+      untaken = left_untaken t.lay h o left (record_at name) mine.0.0 its_left (share_now allows t planting s kept id me.0 fits p one left is_pass share)
 
-      given : (k : RecordNo) → IsLeft left (record_at k) → IsLastDealt m (record_at k) → IsHeldName t o before k → IsUntaken t.lay h (record_at k) → TableLasts allows t planting (seen_by allows t planting stays s kept id me.0 fits p m one recalled at p.rested kept.rows (memory_given_back t m k))
-      given (Node n) is_left last its free = let_go_then allows t planting stays s kept id me.0 fits p m one recalled at (Node n) n.0 m.scx_to its (inl free)
+      given : (k : RecordNo) → IsNotBefore left (record_at k) → IsLastDealt p.memory (record_at k) → IsHeldName t o before k → IsUntaken t.lay h (record_at k) → TableLasts allows t planting (seen_by allows t planting stays s kept id me.0 fits p one at kept.rows (memory_given_back t p.memory k))
+      given (Node n) is_left last its free = let_go_then allows t planting stays s kept id me.0 fits p one at (Node n) n.0 p.memory.scx_to its (inl free)
           (λ i z e. absurd (free.1 (subst (IsTakenNode h) (one_number i n.0 e) z)))
           (λ y its_own d k. node_dealt n.0 last y d)
           (λ y d. node_undealt n.0 last y d)
@@ -237,18 +237,18 @@ module _ (allows : Layout → History → ℕ → Type 0) (t : Lasting) (plantin
           one_number : (i j : ℕ) → the_node i ≡ the_node j → i ≡ j
           one_number i j e = cc
 
-          node_dealt : (i : ℕ) → m.nodes_to ≡ suc i → (y : Record) → IsDealt (memory_without t m (Node n) i m.scx_to) y → (¬ (y ≡ the_node i)) × IsDealt m y
+          node_dealt : (i : ℕ) → p.memory.nodes_to ≡ suc i → (y : Record) → IsDealt (memory_without t p.memory (Node n) i p.memory.scx_to) y → (¬ (y ≡ the_node i)) × IsDealt p.memory y
           node_dealt i e (the_node j) d = ((λ q. let z : j ≡ i = one_number j i q in omega (arith, z, d)), omega (arith, d, e))
           node_dealt i e (the_scx j) d = ((λ q. let z : the_scx j ≡ the_node i = q in cc), d)
 
-          node_undealt : (i : ℕ) → m.nodes_to ≡ suc i → (y : Record) → ¬ IsDealt (memory_without t m (Node n) i m.scx_to) y → (y ≡ the_node i) ⊎ (¬ IsDealt m y)
+          node_undealt : (i : ℕ) → p.memory.nodes_to ≡ suc i → (y : Record) → ¬ IsDealt (memory_without t p.memory (Node n) i p.memory.scx_to) y → (y ≡ the_node i) ⊎ (¬ IsDealt p.memory y)
           node_undealt i e (the_node j) d = go (ℕ_discrete j i)
             where
-              go : Dec (j ≡ i) → (the_node j ≡ the_node i) ⊎ (¬ IsDealt m (the_node j))
+              go : Dec (j ≡ i) → (the_node j ≡ the_node i) ⊎ (¬ IsDealt p.memory (the_node j))
               go (yes q) = inl (ap the_node q)
               go (no q) = inr (λ z. d (omega (arith, z, e, q)))
           node_undealt i e (the_scx j) d = inr d
-      given (Scx n) is_left last its free = let_go_then allows t planting stays s kept id me.0 fits p m one recalled at (Scx n) m.nodes_to n.0 its (inl free)
+      given (Scx n) is_left last its free = let_go_then allows t planting stays s kept id me.0 fits p one at (Scx n) p.memory.nodes_to n.0 its (inl free)
           (λ i z e. absurd (let q : the_node i ≡ the_scx n.0 = e in cc))
           (λ y its_own d k. scx_dealt n.0 last y d)
           (λ y d. scx_undealt n.0 last y d)
@@ -256,28 +256,28 @@ module _ (allows : Layout → History → ℕ → Type 0) (t : Lasting) (plantin
           one_number : (i j : ℕ) → the_scx i ≡ the_scx j → i ≡ j
           one_number i j e = cc
 
-          scx_dealt : (i : ℕ) → m.scx_to ≡ suc i → (y : Record) → IsDealt (memory_without t m (Scx n) m.nodes_to i) y → (¬ (y ≡ the_scx i)) × IsDealt m y
+          scx_dealt : (i : ℕ) → p.memory.scx_to ≡ suc i → (y : Record) → IsDealt (memory_without t p.memory (Scx n) p.memory.nodes_to i) y → (¬ (y ≡ the_scx i)) × IsDealt p.memory y
           scx_dealt i e (the_scx j) d = ((λ q. let z : j ≡ i = one_number j i q in omega (arith, z, d)), omega (arith, d, e))
           scx_dealt i e (the_node j) d = ((λ q. let z : the_node j ≡ the_scx i = q in cc), d)
 
-          scx_undealt : (i : ℕ) → m.scx_to ≡ suc i → (y : Record) → ¬ IsDealt (memory_without t m (Scx n) m.nodes_to i) y → (y ≡ the_scx i) ⊎ (¬ IsDealt m y)
+          scx_undealt : (i : ℕ) → p.memory.scx_to ≡ suc i → (y : Record) → ¬ IsDealt (memory_without t p.memory (Scx n) p.memory.nodes_to i) y → (y ≡ the_scx i) ⊎ (¬ IsDealt p.memory y)
           scx_undealt i e (the_scx j) d = go (ℕ_discrete j i)
             where
-              go : Dec (j ≡ i) → (the_scx j ≡ the_scx i) ⊎ (¬ IsDealt m (the_scx j))
+              go : Dec (j ≡ i) → (the_scx j ≡ the_scx i) ⊎ (¬ IsDealt p.memory (the_scx j))
               go (yes q) = inl (ap the_scx q)
               go (no q) = inr (λ z. d (omega (arith, z, e, q)))
           scx_undealt i e (the_node j) d = inr d
 
   -- a word of a slot that holds nothing is stored 0
-  pub lasting_clears : (u : Word) (slot : RecordNo) → IsIn slot m.empty → record_at slot ≡ record_of u → IsWord t.table u → Allows (TableLasts allows t planting) slots id me (place t.table u) (λ n. 0) (λ n w. LearnsWith allows (λ rows. memory_cleared m u) me.0 w.0 × (w.1 ≡ me.1))
+  pub lasting_clears : (u : Word) (slot : RecordNo) → IsIn slot p.memory.empty → record_at slot ≡ record_of u → IsWord t.table u → Allows (TableLasts allows t planting) slots id me (place t.table u) (λ n. 0) (λ n w. LearnsWith allows (λ rows. memory_cleared p.memory u) me.0 w.0 × (w.1 ≡ me.1))
   lasting_clears u slot empty of_slot is_word s kept sized fits small = (
-    record { passes = aware allows t planting s kept id me.0 fits p m one recalled ∷ []; memories = memory_cleared m u ∷ [] },
+    seat_view (aware allows t planting s kept id me.0 fits p one (memory_cleared p.memory u) ∷ []),
     keeps,
     tt,
-    goes_on allows t planting stays s kept id me.0 fits p m one recalled at words p.rested kept.rows kept.last kept.held (memory_cleared m u) kept.sound window counts later (λ q d z. refl) gone
+    goes_on allows t planting stays s kept id me.0 fits p one at words kept.rows kept.last kept.held (memory_cleared p.memory u) kept.sound window counts later (λ q d z. refl) gone
         record { away = recalls.away; often = recalls.often; rested = recalls.rested; names = names }
         (λ q d. spares q) (λ j d ps y. y),
-    ((kept.rows, learnt allows t planting s kept id me.0 fits p m one recalled, refl), refl),
+    ((kept.rows, learnt allows t planting s kept id me.0 fits p one refl), refl),
   )
     where
       o : ℕ
@@ -290,13 +290,13 @@ module _ (allows : Layout → History → ℕ → Type 0) (t : Lasting) (plantin
       h = history_of planting kept.rows
 
       before : Present
-      before = now allows t planting s kept id me.0 fits p m one recalled
+      before = now allows t planting s kept id me.0 fits p one
 
-      recalls : RemembersWell t planting before o p.rested m
-      recalls = well allows t planting s kept id me.0 fits p m one recalled
+      recalls : RemembersWell t planting before o p.memory
+      recalls = well allows t planting s kept id me.0 fits p one
 
       mine : IsEmptySlot t o before slot
-      mine = in_each (IsEmptySlot t o before) slot m.empty empty recalls.names.empty
+      mine = in_each (IsEmptySlot t o before) slot p.memory.empty empty recalls.names.empty
 
       none : kept.held (record_of u) ≡ None
       none = ap kept.held (sym of_slot) ∙ mine.1
@@ -332,15 +332,15 @@ module _ (allows : Layout → History → ℕ → Type 0) (t : Lasting) (plantin
       zeros_kept : (q : ℕ) (k : Word) → IsZeroWord t q before k → IsZeroWord t q there k
       zeros_kept q k e = record { is_word = e.is_word; own = e.own; none = e.none; zero = zero_kept k e.zero }
 
-      names : RemembersNames t planting there o (memory_cleared m u)
+      names : RemembersNames t planting there o (memory_cleared p.memory u)
       names = record {
         dealt = recalls.names.dealt;
         later = recalls.names.later;
-        notes = each_kept _ _ (λ n. note_kept t planting before there later stays o (record_at n.name) n.note) m.notes recalls.names.notes;
-        polls = each_kept _ _ (poll_kept t planting before there later stays) m.polls recalls.names.polls;
+        notes = each_kept _ _ (λ n. note_kept t planting before there later stays o (record_at n.name) n.note) p.memory.notes recalls.names.notes;
+        polls = each_kept _ _ (poll_kept t planting before there later stays) p.memory.polls recalls.names.polls;
         holds = recalls.names.holds;
         empty = recalls.names.empty;
-        zeros = (record { is_word = is_word; own = subst (IsOwnRecord t.table o) of_slot mine.0; none = none; zero = cleared }, each_kept _ _ (zeros_kept o) m.zeros recalls.names.zeros);
+        zeros = (record { is_word = is_word; own = subst (IsOwnRecord t.table o) of_slot mine.0; none = none; zero = cleared }, each_kept _ _ (zeros_kept o) p.memory.zeros recalls.names.zeros);
       }
 
       spares : (q : ℕ) → Spares t planting before there later stays q

@@ -4,7 +4,7 @@ use mathlib.Core.Option.{some}
 use lib.ListN.{get_elem?}
 use native.Mathlib.Decide.{dec_lt}
 use Rattle.atomic_table.specs.Table.{State, Me, Allows, keeps}
-use Rattle.histories.specs.Common.{Layout, Row, Word, History, IsOwnNode, IsOwnScx, IsTakenNode, IsRun, Remaining, HasNode, HasScx}
+use Rattle.histories.specs.Common.{Layout, Row, Word, History, IsOwnNode, IsOwnScx, IsTakenNode, IsRun, Remaining}
 use Rattle.arena.proofs.Lemmas.{ends_self}
 use Rattle.planting.specs.Plantings.{PlantingView}
 use Rattle.ordered_map.specs.Paths.{WasInTree}
@@ -16,22 +16,22 @@ use Rattle.slots.specs.Held.{Held, IsHeld, same_record, with_slot}
 use Rattle.slots.specs.Lasting.{IsOwnRecord, IsUntaken, Lasting, slot_of}
 use Rattle.slots.specs.Window.{IsWindow}
 use Rattle.slots.proofs.Lemmas.{none_passed, passes_over, record_discrete, rest_other, rest_same, seen_moves, takes, with_other, with_same}
-use Rattle.forest.specs.LastingSlots.{IsLeft}
+use Rattle.forest.specs.LastingSlots.{IsNotBefore}
 use Rattle.forest.specs.Passes.{Each}
-use Rattle.forest.specs.TableRule.{Owns, history_of, seated_pass}
+use Rattle.forest.specs.TableRule.{history_of, Owns, seat_view, seated_pass}
 use Rattle.forest.specs.LastingMemory.{AreHeldOrGone, IsDealt, IsEmptySlot, IsGone, IsZeroWord, Present, RemembersNames, RemembersWell, present, record_at}
 use Rattle.forest.specs.LastingNames.{MayTake, memory_with, memory_with_node, memory_with_scx, node_ahead, past_nodes, past_scxs, scx_ahead, without_words}
-use Rattle.forest.specs.LastingRule.{GoesOnWith, TableLasts, plot_in, LearnsAtRest}
-use Rattle.forest.specs.declared.lasting_view.LastingView.{LastingView}
-use Rattle.forest.specs.declared.lasting_view.PassMemory.{PassMemory}
-use Rattle.forest.specs.declared.lasting_view.RecordNo.{RecordNo}
+use Rattle.forest.specs.LastingRule.{GoesOnWith, TableLasts, plot_in, LearnsWith}
+use Rattle.forest.specs.declared.view.SeatView.{SeatView}
+use Rattle.forest.specs.declared.memory.PassMemory.{PassMemory}
+use Rattle.forest.specs.declared.memory.RecordNo.{RecordNo}
 use Rattle.forest.specs.declared.rule.Plot.{Plot}
 use Rattle.forest.specs.declared.view.SeatedPass.{SeatedPass}
 use Rattle.forest.proofs.LastingKept.{Later, Spares, StaysUnborn, each_kept, gone_kept, note_kept, poll_kept, untaken_before}
 use Rattle.forest.proofs.LastingGhosts.{as_loaded, goes_on, in_each, seen_by}
 use Rattle.forest.proofs.LastingNames.{GoesOn, IsReady, PassedNodes, PassedScx, passes_all_scx, passes_nodes}
 use Rattle.forest.proofs.LastingRests.{moves_now}
-use Rattle.forest.proofs.LastingSeats.{at_rest, learnt_at_rest, now, over, own, share_now, well}
+use Rattle.forest.proofs.LastingSeats.{aware, learnt, now, over, own, share_now, well}
 use Rattle.forest.proofs.LastingSlots.{each_without, one_record_owner, same_self, left_untaken}
 
 each_without_words : (P Q : Word → Type 0) (x : Record) → ((w : Word) → ¬ (record_of w ≡ x) → P w → Q w) → (ws : List Word) → Each P ws → Each Q (without_words x ws)
@@ -60,7 +60,7 @@ module _ (t : Lasting) (held : Held) (slot x : Record) (none : held slot ≡ Non
 
 -- It may give the slot this name, once the run has gone on to these rows; then it remembers so
 -- much.
-module _ (allows : Layout → History → ℕ → Type 0) (t : Lasting) (planting : PlantingView) (stays : StaysUnborn t.lay) (s : State ℕ LastingView) (kept : TableLasts allows t planting s) (id : ℕ) (v : LastingView) (fits : get_elem? s.views id ≡ some v) (p : SeatedPass) (m : PassMemory) (one : v.passes ≡ p ∷ []) (recalled : v.memories ≡ m ∷ []) (at : ℕ) (left : Remaining) (name slot : RecordNo) (nodes_to scx_to : ℕ) (may : MayTake t p m left name slot) where
+module _ (allows : Layout → History → ℕ → Type 0) (t : Lasting) (planting : PlantingView) (stays : StaysUnborn t.lay) (s : State ℕ SeatView) (kept : TableLasts allows t planting s) (id : ℕ) (v : SeatView) (fits : get_elem? s.views id ≡ some v) (p : SeatedPass) (one : v.passes ≡ p ∷ []) (at : ℕ) (left : Remaining) (name slot : RecordNo) (nodes_to scx_to : ℕ) (may : MayTake t p left name slot) where
   abbrev o : ℕ
   o = p.number.0
 
@@ -68,24 +68,24 @@ module _ (allows : Layout → History → ℕ → Type 0) (t : Lasting) (plantin
   x = record_at name
 
   abbrev before : Present
-  before = now allows t planting s kept id v fits p m one recalled
+  before = now allows t planting s kept id v fits p one
 
-  pub recalls : RemembersWell t planting before p.number.0 p.rested m
-  recalls = well allows t planting s kept id v fits p m one recalled
+  pub recalls : RemembersWell t planting before p.number.0 p.memory
+  recalls = well allows t planting s kept id v fits p one
 
   pub owned : Owns (plot_in t planting) kept.rows kept.owner id (p ∷ [])
-  owned = own allows t planting s kept id v fits p m one recalled
+  owned = own allows t planting s kept id v fits p one
 
   pub is_there : kept.tally.away p.number.0 ≡ false
   is_there = sym recalls.away ∙ may.there
 
   pub its_share : IsShare t.lay (history_of planting kept.rows) p.number.0 left left.next_node left.next_scx
-  its_share = share_now allows t planting s kept id v fits p m one recalled left may.is_pass may.share
+  its_share = share_now allows t planting s kept id v fits p one left may.is_pass may.share
 
   pub goes_now : GoesOn allows t planting kept.held kept.last kept.tally s.words kept.owner id p.number.0 owned.0 kept.rows may.is_pass is_there kept.rows
   goes_now = record { sound = kept.sound; within = ends_self (history_of planting kept.rows); rested = kept.window.rested; counts = kept.counts; seen = λ q l n y. y; grows = λ j other ps y. y }
 
-  module _ (rows : List Row) (ready : IsReady allows t planting kept.held kept.last kept.tally s.words kept.owner id p.number.0 owned.0 kept.rows may.is_pass is_there (record_at name) m (memory_with m name slot nodes_to scx_to) rows) where
+  module _ (rows : List Row) (ready : IsReady allows t planting kept.held kept.last kept.tally s.words kept.owner id p.number.0 owned.0 kept.rows may.is_pass is_there (record_at name) p.memory (memory_with p.memory name slot nodes_to scx_to rows) rows) where
     abbrev k : History
     k = history_of planting rows
 
@@ -93,7 +93,7 @@ module _ (allows : Layout → History → ℕ → Type 0) (t : Lasting) (plantin
     last = with_rest kept.last p.number.0 (history_of planting rows)
 
     abbrev after : PassMemory
-    after = memory_with m name slot nodes_to scx_to
+    after = memory_with p.memory name slot nodes_to scx_to rows
 
     abbrev held : Held
     held = with_slot kept.held (record_at slot) (Some (record_at name))
@@ -102,7 +102,7 @@ module _ (allows : Layout → History → ℕ → Type 0) (t : Lasting) (plantin
     there = present s.words k last held kept.tally
 
     empty_slot : IsEmptySlot t p.number.0 before slot
-    empty_slot = in_each (IsEmptySlot t p.number.0 before) slot m.empty may.empty recalls.names.empty
+    empty_slot = in_each (IsEmptySlot t p.number.0 before) slot p.memory.empty may.empty recalls.names.empty
 
     none : kept.held (record_at slot) ≡ None
     none = empty_slot.1
@@ -110,7 +110,7 @@ module _ (allows : Layout → History → ℕ → Type 0) (t : Lasting) (plantin
     window : IsWindow t s.words k last held
     window = takes t s.words k last kept.held (passes_over t s.words (history_of planting kept.rows) k kept.last kept.held o kept.window ready.goes.within ready.run ready.passed may.is_pass ready.over) (record_at slot) x none
         record { slot_is = may.slot_is; name = inr (o, may.is_pass, may.own) } ready.free
-        (λ w is_word of_slot. (in_each (IsZeroWord t o before) w m.zeros (may.zeros w is_word of_slot) recalls.names.zeros).zero)
+        (λ w is_word of_slot. (in_each (IsZeroWord t o before) w p.memory.zeros (may.zeros w is_word of_slot) recalls.names.zeros).zero)
 
     moved : HaveMovedOn t.lay k kept.last last
     moved = moves_now t k kept.last o ready.goes.rested
@@ -143,11 +143,11 @@ module _ (allows : Layout → History → ℕ → Type 0) (t : Lasting) (plantin
     names = record {
       dealt = dealt;
       later = undealt;
-      notes = each_kept _ _ (λ n. note_kept t planting before there later stays o (record_at n.name) n.note) m.notes recalls.names.notes;
-      polls = each_kept _ _ (poll_kept t planting before there later stays) m.polls recalls.names.polls;
-      holds = ((may.own, x_held), each_kept _ _ (λ n e. (e.0, still_held (record_at n) e.1)) m.holds recalls.names.holds);
-      empty = each_without (IsEmptySlot t o before) (IsEmptySlot t o there) (record_at slot) (λ n d e. (e.0, slot_kept (record_at n) d e.1)) m.empty recalls.names.empty;
-      zeros = each_without_words (IsZeroWord t o before) (IsZeroWord t o there) (record_at slot) (λ w d e. record { is_word = e.is_word; own = e.own; none = slot_kept (record_of w) d e.none; zero = e.zero }) m.zeros recalls.names.zeros;
+      notes = each_kept _ _ (λ n. note_kept t planting before there later stays o (record_at n.name) n.note) p.memory.notes recalls.names.notes;
+      polls = each_kept _ _ (poll_kept t planting before there later stays) p.memory.polls recalls.names.polls;
+      holds = ((may.own, x_held), each_kept _ _ (λ n e. (e.0, still_held (record_at n) e.1)) p.memory.holds recalls.names.holds);
+      empty = each_without (IsEmptySlot t o before) (IsEmptySlot t o there) (record_at slot) (λ n d e. (e.0, slot_kept (record_at n) d e.1)) p.memory.empty recalls.names.empty;
+      zeros = each_without_words (IsZeroWord t o before) (IsZeroWord t o there) (record_at slot) (λ w d e. record { is_word = e.is_word; own = e.own; none = slot_kept (record_of w) d e.none; zero = e.zero }) p.memory.zeros recalls.names.zeros;
     }
 
     not_mine : (q : ℕ) → q ≢ o → (y : Record) → IsOwnRecord t.table q y → ¬ (y ≡ record_at slot)
@@ -161,29 +161,28 @@ module _ (allows : Layout → History → ℕ → Type 0) (t : Lasting) (plantin
       zeros = λ w e. record { is_word = e.is_word; own = e.own; none = slot_kept (record_of w) (not_mine q d (record_of w) e.own) e.none; zero = e.zero };
     }
 
-    pub name_taken : TableLasts allows t planting (seen_by allows t planting stays s kept id v fits p m one recalled at rows rows after)
-    name_taken = as_loaded allows t planting stays s kept id v fits p m one recalled at rows rows after
-        (goes_on allows t planting stays s kept id v fits p m one recalled at s.words rows rows last held after ready.goes.sound window ready.goes.counts later (λ q d z. rest_other kept.last o k q d) gone
+    pub name_taken : TableLasts allows t planting (seen_by allows t planting stays s kept id v fits p one at rows after)
+    name_taken = as_loaded allows t planting stays s kept id v fits p one at rows after
+        (goes_on allows t planting stays s kept id v fits p one at s.words rows last held after ready.goes.sound window ready.goes.counts later (λ q d z. rest_other kept.last o k q d) gone
         record { away = recalls.away; often = recalls.often; rested = λ z. rest_same kept.last o k; names = names }
         spares ready.goes.grows)
 
-module _ (allows : Layout → History → ℕ → Type 0) (t : Lasting) (planting : PlantingView) (stays : StaysUnborn t.lay) (slots id : ℕ) (me : Me ℕ LastingView) (p : SeatedPass) (m : PassMemory) (one : me.0.passes ≡ p ∷ []) (recalled : me.0.memories ≡ m ∷ []) (at count : ℕ) (left : Remaining) (slot : RecordNo) where
+module _ (allows : Layout → History → ℕ → Type 0) (t : Lasting) (planting : PlantingView) (stays : StaysUnborn t.lay) (slots id : ℕ) (me : Me ℕ SeatView) (p : SeatedPass) (one : me.0.passes ≡ p ∷ []) (at count : ℕ) (left : Remaining) (slot : RecordNo) where
   -- the next name of a node but so many, at a load of any word
-  pub lasting_nodes : MayTake t p m left (node_ahead m count) slot → left.next_node ≡ m.nodes_to → Allows (TableLasts allows t planting) slots id me at (λ n. n) (λ n w. GoesOnWith allows (past_nodes p.number.0 m.nodes_to count) (memory_with_node m count slot) me.0 w.0 × (w.1 ≡ me.1))
+  pub lasting_nodes : MayTake t p left (node_ahead p.memory count) slot → left.next_node ≡ p.memory.nodes_to → Allows (TableLasts allows t planting) slots id me at (λ n. n) (λ n w. GoesOnWith allows (past_nodes p.number.0 p.memory.nodes_to count) (memory_with_node p.memory count slot) me.0 w.0 × (w.1 ≡ me.1))
   lasting_nodes may all s kept sized fits small = (
-    record { passes = seated_pass o p.layout p.planting rows rows ∷ []; memories = memory_with_node m count slot ∷ [] },
+    seat_view (seated_pass o p.layout p.planting (memory_with_node p.memory count slot rows) rows ∷ []),
     keeps,
     tt,
-    name_taken allows t planting stays s kept id me.0 fits p m one recalled at left (node_ahead m count) slot (m.nodes_to + suc count) m.scx_to may rows ready,
+    name_taken allows t planting stays s kept id me.0 fits p one at left (node_ahead p.memory count) slot (p.memory.nodes_to + suc count) p.memory.scx_to may rows ready,
     (
       record {
         pass = p;
         others = mine.2.0;
         was = one;
         by_others = mine.2.2;
-        run = subst (λ (g : Plot). IsRun allows g.layout (history_of g.planting (past_nodes o m.nodes_to count g.planting (mine.2.0 ++ p.known)))) (sym mine.1) (subst (λ l. IsRun allows t.lay (history_of planting (past_nodes o m.nodes_to count planting l))) mine.2.1 passed.goes.sound);
-        passes = ap (λ l. seated_pass o p.layout p.planting l l ∷ []) rows_are;
-        memories = refl;
+        run = subst (λ (g : Plot). IsRun allows g.layout (history_of g.planting (past_nodes o p.memory.nodes_to count g.planting (mine.2.0 ++ p.known)))) (sym mine.1) (subst (λ l. IsRun allows t.lay (history_of planting (past_nodes o p.memory.nodes_to count planting l))) mine.2.1 passed.goes.sound);
+        passes = ap (λ l. seated_pass o p.layout p.planting (memory_with_node p.memory count slot l) l ∷ []) rows_are;
       },
       refl,
     ),
@@ -193,61 +192,61 @@ module _ (allows : Layout → History → ℕ → Type 0) (t : Lasting) (plantin
       o = p.number.0
 
       mine : Owns (plot_in t planting) kept.rows kept.owner id (p ∷ [])
-      mine = owned allows t planting stays s kept id me.0 fits p m one recalled at left (node_ahead m count) slot (m.nodes_to + suc count) m.scx_to may
+      mine = owned allows t planting stays s kept id me.0 fits p one at left (node_ahead p.memory count) slot (p.memory.nodes_to + suc count) p.memory.scx_to may
 
-      known : RemembersWell t planting (now allows t planting s kept id me.0 fits p m one recalled) o p.rested m
-      known = recalls allows t planting stays s kept id me.0 fits p m one recalled at left (node_ahead m count) slot (m.nodes_to + suc count) m.scx_to may
+      known : RemembersWell t planting (now allows t planting s kept id me.0 fits p one) o p.memory
+      known = recalls allows t planting stays s kept id me.0 fits p one at left (node_ahead p.memory count) slot (p.memory.nodes_to + suc count) p.memory.scx_to may
 
       rows : List Row
-      rows = past_nodes o m.nodes_to count planting kept.rows
+      rows = past_nodes o p.memory.nodes_to count planting kept.rows
 
-      rows_are : rows ≡ past_nodes o m.nodes_to count p.planting (mine.2.0 ++ p.known)
-      rows_are = ap (λ l. past_nodes o m.nodes_to count planting l) mine.2.1 ∙ ap (λ (g : Plot). past_nodes o m.nodes_to count g.planting (mine.2.0 ++ p.known)) (sym mine.1)
+      rows_are : rows ≡ past_nodes o p.memory.nodes_to count p.planting (mine.2.0 ++ p.known)
+      rows_are = ap (λ l. past_nodes o p.memory.nodes_to count planting l) mine.2.1 ∙ ap (λ (g : Plot). past_nodes o p.memory.nodes_to count g.planting (mine.2.0 ++ p.known)) (sym mine.1)
 
       share : IsShare t.lay (history_of planting kept.rows) o left left.next_node left.next_scx
-      share = its_share allows t planting stays s kept id me.0 fits p m one recalled at left (node_ahead m count) slot (m.nodes_to + suc count) m.scx_to may
+      share = its_share allows t planting stays s kept id me.0 fits p one at left (node_ahead p.memory count) slot (p.memory.nodes_to + suc count) p.memory.scx_to may
 
-      is_left : (n : ℕ) → IsOwnNode t.lay o n → m.nodes_to ≤ n → HasNode left n
-      is_left n its_own more = record { from = (let e = all in omega (arith, e, more)); below = (let e = share.to_node in let b = its_own.below in omega (arith, e, b)) }
+      from_left : (n : ℕ) → p.memory.nodes_to ≤ n → left.next_node ≤ n
+      from_left n more = let e = all in omega (arith, e, more)
 
-      own_between : (n : ℕ) → m.nodes_to ≤ n → n < m.nodes_to + count → IsOwnNode t.lay o n
+      own_between : (n : ℕ) → p.memory.nodes_to ≤ n → n < p.memory.nodes_to + count → IsOwnNode t.lay o n
       own_between n more less = record { from = (let a = share.from_node in let e = all in omega (arith, a, e, more)); below = (let b = may.own.0.below in omega (arith, b, less)) }
 
-      begins : PassedNodes allows t planting kept.held kept.last kept.tally s.words kept.owner id o mine.0 kept.rows may.is_pass (is_there allows t planting stays s kept id me.0 fits p m one recalled at left (node_ahead m count) slot (m.nodes_to + suc count) m.scx_to may) m.nodes_to kept.rows
+      begins : PassedNodes allows t planting kept.held kept.last kept.tally s.words kept.owner id o mine.0 kept.rows may.is_pass (is_there allows t planting stays s kept id me.0 fits p one at left (node_ahead p.memory count) slot (p.memory.nodes_to + suc count) p.memory.scx_to may) p.memory.nodes_to kept.rows
       begins = record {
-        goes = goes_now allows t planting stays s kept id me.0 fits p m one recalled at left (node_ahead m count) slot (m.nodes_to + suc count) m.scx_to may;
+        goes = goes_now allows t planting stays s kept id me.0 fits p one at left (node_ahead p.memory count) slot (p.memory.nodes_to + suc count) p.memory.scx_to may;
         run = kept.window.run;
-        over = over allows t planting s kept id me.0 fits p m one recalled may.over;
+        over = over allows t planting s kept id me.0 fits p one may.over;
         passed = none_passed t kept.held kept.last o (history_of planting kept.rows);
         taken = λ n its_own less. share.taken_nodes n its_own (let e = all in omega (arith, e, less));
-        untaken = λ n its_own more. share.untaken_nodes n (is_left n its_own more);
-        unmentioned = λ n its_own more. share.unmentioned n (is_left n its_own more);
+        untaken = λ n its_own more. share.untaken_nodes n its_own (from_left n more);
+        unmentioned = λ n its_own more. share.unmentioned n its_own (from_left n more);
         others = λ n z. inl z;
       }
 
-      passed : PassedNodes allows t planting kept.held kept.last kept.tally s.words kept.owner id o mine.0 kept.rows may.is_pass (is_there allows t planting stays s kept id me.0 fits p m one recalled at left (node_ahead m count) slot (m.nodes_to + suc count) m.scx_to may) (m.nodes_to + count) rows
-      passed = passes_nodes allows t planting kept.held kept.last kept.tally s.words kept.owner id o mine.0 kept.rows may.is_pass (is_there allows t planting stays s kept id me.0 fits p m one recalled at left (node_ahead m count) slot (m.nodes_to + suc count) m.scx_to may) count m.nodes_to kept.rows begins
+      passed : PassedNodes allows t planting kept.held kept.last kept.tally s.words kept.owner id o mine.0 kept.rows may.is_pass (is_there allows t planting stays s kept id me.0 fits p one at left (node_ahead p.memory count) slot (p.memory.nodes_to + suc count) p.memory.scx_to may) (p.memory.nodes_to + count) rows
+      passed = passes_nodes allows t planting kept.held kept.last kept.tally s.words kept.owner id o mine.0 kept.rows may.is_pass (is_there allows t planting stays s kept id me.0 fits p one at left (node_ahead p.memory count) slot (p.memory.nodes_to + suc count) p.memory.scx_to may) count p.memory.nodes_to kept.rows begins
           (λ n more less. (own_between n more less, known.names.later (the_node n) (own_between n more less) (λ z. omega (arith, more, z))))
 
-      dealt : (y : Record) → IsOwnRecord t.lay o y → IsDealt (memory_with_node m count slot) y → IsUntaken t.lay (history_of planting rows) y → (y ≡ the_node (m.nodes_to + count)) ⊎ IsDealt m y
-      dealt (the_node n) its_own d free = go (dec_lt n (m.nodes_to + count))
+      dealt : (y : Record) → IsOwnRecord t.lay o y → IsDealt (memory_with_node p.memory count slot rows) y → IsUntaken t.lay (history_of planting rows) y → (y ≡ the_node (p.memory.nodes_to + count)) ⊎ IsDealt p.memory y
+      dealt (the_node n) its_own d free = go (dec_lt n (p.memory.nodes_to + count))
         where
-          go : Dec (n < m.nodes_to + count) → (the_node n ≡ the_node (m.nodes_to + count)) ⊎ (n < m.nodes_to)
+          go : Dec (n < p.memory.nodes_to + count) → (the_node n ≡ the_node (p.memory.nodes_to + count)) ⊎ (n < p.memory.nodes_to)
           go (yes less) = absurd (free.1 (passed.taken n its_own less))
           go (no more) = inl (ap the_node (omega (arith, d, more)))
       dealt (the_scx i) its_own d free = inr d
 
-      undealt : (y : Record) → ¬ IsDealt (memory_with_node m count slot) y → ¬ IsDealt m y
+      undealt : (y : Record) → ¬ IsDealt (memory_with_node p.memory count slot rows) y → ¬ IsDealt p.memory y
       undealt (the_node n) d z = d (omega (arith, z))
       undealt (the_scx i) d z = d z
 
-      ready : IsReady allows t planting kept.held kept.last kept.tally s.words kept.owner id o mine.0 kept.rows may.is_pass (is_there allows t planting stays s kept id me.0 fits p m one recalled at left (node_ahead m count) slot (m.nodes_to + suc count) m.scx_to may) (the_node (m.nodes_to + count)) m (memory_with_node m count slot) rows
+      ready : IsReady allows t planting kept.held kept.last kept.tally s.words kept.owner id o mine.0 kept.rows may.is_pass (is_there allows t planting stays s kept id me.0 fits p one at left (node_ahead p.memory count) slot (p.memory.nodes_to + suc count) p.memory.scx_to may) (the_node (p.memory.nodes_to + count)) p.memory (memory_with_node p.memory count slot rows) rows
       ready = record {
         goes = passed.goes;
         run = passed.run;
         over = passed.over;
         passed = passed.passed;
-        free = ((let a = may.own.0.from in omega (arith, a)), passed.untaken (m.nodes_to + count) may.own.0 (omega arith));
+        free = ((let a = may.own.0.from in omega (arith, a)), passed.untaken (p.memory.nodes_to + count) may.own.0 (omega arith));
         dealt = dealt;
         undealt = undealt;
         itself = omega arith;
@@ -255,21 +254,20 @@ module _ (allows : Layout → History → ℕ → Type 0) (t : Lasting) (plantin
       }
 
   -- and of an SCX-record
-  pub lasting_scx : MayTake t p m left (scx_ahead m count) slot → left.next_scx ≡ m.scx_to → Allows (TableLasts allows t planting) slots id me at (λ n. n) (λ n w. GoesOnWith allows (past_scxs p.number.0 m.scx_to count) (memory_with_scx m count slot) me.0 w.0 × (w.1 ≡ me.1))
+  pub lasting_scx : MayTake t p left (scx_ahead p.memory count) slot → left.next_scx ≡ p.memory.scx_to → Allows (TableLasts allows t planting) slots id me at (λ n. n) (λ n w. GoesOnWith allows (past_scxs p.number.0 p.memory.scx_to count) (memory_with_scx p.memory count slot) me.0 w.0 × (w.1 ≡ me.1))
   lasting_scx may all s kept sized fits small = (
-    record { passes = seated_pass o p.layout p.planting rows rows ∷ []; memories = memory_with_scx m count slot ∷ [] },
+    seat_view (seated_pass o p.layout p.planting (memory_with_scx p.memory count slot rows) rows ∷ []),
     keeps,
     tt,
-    name_taken allows t planting stays s kept id me.0 fits p m one recalled at left (scx_ahead m count) slot m.nodes_to (m.scx_to + suc count) may rows ready,
+    name_taken allows t planting stays s kept id me.0 fits p one at left (scx_ahead p.memory count) slot p.memory.nodes_to (p.memory.scx_to + suc count) may rows ready,
     (
       record {
         pass = p;
         others = mine.2.0;
         was = one;
         by_others = mine.2.2;
-        run = subst (λ (g : Plot). IsRun allows g.layout (history_of g.planting (past_scxs o m.scx_to count g.planting (mine.2.0 ++ p.known)))) (sym mine.1) (subst (λ l. IsRun allows t.lay (history_of planting (past_scxs o m.scx_to count planting l))) mine.2.1 passed.goes.sound);
-        passes = ap (λ l. seated_pass o p.layout p.planting l l ∷ []) rows_are;
-        memories = refl;
+        run = subst (λ (g : Plot). IsRun allows g.layout (history_of g.planting (past_scxs o p.memory.scx_to count g.planting (mine.2.0 ++ p.known)))) (sym mine.1) (subst (λ l. IsRun allows t.lay (history_of planting (past_scxs o p.memory.scx_to count planting l))) mine.2.1 passed.goes.sound);
+        passes = ap (λ l. seated_pass o p.layout p.planting (memory_with_scx p.memory count slot l) l ∷ []) rows_are;
       },
       refl,
     ),
@@ -279,60 +277,60 @@ module _ (allows : Layout → History → ℕ → Type 0) (t : Lasting) (plantin
       o = p.number.0
 
       mine : Owns (plot_in t planting) kept.rows kept.owner id (p ∷ [])
-      mine = owned allows t planting stays s kept id me.0 fits p m one recalled at left (scx_ahead m count) slot m.nodes_to (m.scx_to + suc count) may
+      mine = owned allows t planting stays s kept id me.0 fits p one at left (scx_ahead p.memory count) slot p.memory.nodes_to (p.memory.scx_to + suc count) may
 
-      known : RemembersWell t planting (now allows t planting s kept id me.0 fits p m one recalled) o p.rested m
-      known = recalls allows t planting stays s kept id me.0 fits p m one recalled at left (scx_ahead m count) slot m.nodes_to (m.scx_to + suc count) may
+      known : RemembersWell t planting (now allows t planting s kept id me.0 fits p one) o p.memory
+      known = recalls allows t planting stays s kept id me.0 fits p one at left (scx_ahead p.memory count) slot p.memory.nodes_to (p.memory.scx_to + suc count) may
 
       rows : List Row
-      rows = past_scxs o m.scx_to count planting kept.rows
+      rows = past_scxs o p.memory.scx_to count planting kept.rows
 
-      rows_are : rows ≡ past_scxs o m.scx_to count p.planting (mine.2.0 ++ p.known)
-      rows_are = ap (λ l. past_scxs o m.scx_to count planting l) mine.2.1 ∙ ap (λ (g : Plot). past_scxs o m.scx_to count g.planting (mine.2.0 ++ p.known)) (sym mine.1)
+      rows_are : rows ≡ past_scxs o p.memory.scx_to count p.planting (mine.2.0 ++ p.known)
+      rows_are = ap (λ l. past_scxs o p.memory.scx_to count planting l) mine.2.1 ∙ ap (λ (g : Plot). past_scxs o p.memory.scx_to count g.planting (mine.2.0 ++ p.known)) (sym mine.1)
 
       share : IsShare t.lay (history_of planting kept.rows) o left left.next_node left.next_scx
-      share = its_share allows t planting stays s kept id me.0 fits p m one recalled at left (scx_ahead m count) slot m.nodes_to (m.scx_to + suc count) may
+      share = its_share allows t planting stays s kept id me.0 fits p one at left (scx_ahead p.memory count) slot p.memory.nodes_to (p.memory.scx_to + suc count) may
 
-      is_left : (n : ℕ) → IsOwnScx t.lay o n → m.scx_to ≤ n → HasScx left n
-      is_left n its_own more = record { from = (let e = all in omega (arith, e, more)); below = (let e = share.to_scx in let b = its_own.below in omega (arith, e, b)) }
+      from_left : (n : ℕ) → p.memory.scx_to ≤ n → left.next_scx ≤ n
+      from_left n more = let e = all in omega (arith, e, more)
 
-      own_between : (n : ℕ) → m.scx_to ≤ n → n < m.scx_to + count → IsOwnScx t.lay o n
+      own_between : (n : ℕ) → p.memory.scx_to ≤ n → n < p.memory.scx_to + count → IsOwnScx t.lay o n
       own_between n more less = record { from = (let a = share.from_scx in let e = all in omega (arith, a, e, more)); below = (let b = may.own.0.below in omega (arith, b, less)) }
 
-      begins : PassedScx allows t planting kept.held kept.last kept.tally s.words kept.owner id o mine.0 kept.rows may.is_pass (is_there allows t planting stays s kept id me.0 fits p m one recalled at left (scx_ahead m count) slot m.nodes_to (m.scx_to + suc count) may) m.scx_to kept.rows
+      begins : PassedScx allows t planting kept.held kept.last kept.tally s.words kept.owner id o mine.0 kept.rows may.is_pass (is_there allows t planting stays s kept id me.0 fits p one at left (scx_ahead p.memory count) slot p.memory.nodes_to (p.memory.scx_to + suc count) may) p.memory.scx_to kept.rows
       begins = record {
-        goes = goes_now allows t planting stays s kept id me.0 fits p m one recalled at left (scx_ahead m count) slot m.nodes_to (m.scx_to + suc count) may;
+        goes = goes_now allows t planting stays s kept id me.0 fits p one at left (scx_ahead p.memory count) slot p.memory.nodes_to (p.memory.scx_to + suc count) may;
         run = kept.window.run;
-        over = over allows t planting s kept id me.0 fits p m one recalled may.over;
+        over = over allows t planting s kept id me.0 fits p one may.over;
         passed = none_passed t kept.held kept.last o (history_of planting kept.rows);
         taken = λ n its_own less. share.taken_scx n its_own (let e = all in omega (arith, e, less));
-        untaken = λ n its_own more. share.untaken n (is_left n its_own more);
+        untaken = λ n its_own more. share.untaken n its_own (from_left n more);
         others = λ n z. z;
       }
 
-      passed : PassedScx allows t planting kept.held kept.last kept.tally s.words kept.owner id o mine.0 kept.rows may.is_pass (is_there allows t planting stays s kept id me.0 fits p m one recalled at left (scx_ahead m count) slot m.nodes_to (m.scx_to + suc count) may) (m.scx_to + count) rows
-      passed = passes_all_scx allows t planting kept.held kept.last kept.tally s.words kept.owner id o mine.0 kept.rows may.is_pass (is_there allows t planting stays s kept id me.0 fits p m one recalled at left (scx_ahead m count) slot m.nodes_to (m.scx_to + suc count) may) count m.scx_to kept.rows begins
+      passed : PassedScx allows t planting kept.held kept.last kept.tally s.words kept.owner id o mine.0 kept.rows may.is_pass (is_there allows t planting stays s kept id me.0 fits p one at left (scx_ahead p.memory count) slot p.memory.nodes_to (p.memory.scx_to + suc count) may) (p.memory.scx_to + count) rows
+      passed = passes_all_scx allows t planting kept.held kept.last kept.tally s.words kept.owner id o mine.0 kept.rows may.is_pass (is_there allows t planting stays s kept id me.0 fits p one at left (scx_ahead p.memory count) slot p.memory.nodes_to (p.memory.scx_to + suc count) may) count p.memory.scx_to kept.rows begins
           (λ n more less. (own_between n more less, known.names.later (the_scx n) (own_between n more less) (λ z. omega (arith, more, z))))
 
-      dealt : (y : Record) → IsOwnRecord t.lay o y → IsDealt (memory_with_scx m count slot) y → IsUntaken t.lay (history_of planting rows) y → (y ≡ the_scx (m.scx_to + count)) ⊎ IsDealt m y
-      dealt (the_scx n) its_own d free = go (dec_lt n (m.scx_to + count))
+      dealt : (y : Record) → IsOwnRecord t.lay o y → IsDealt (memory_with_scx p.memory count slot rows) y → IsUntaken t.lay (history_of planting rows) y → (y ≡ the_scx (p.memory.scx_to + count)) ⊎ IsDealt p.memory y
+      dealt (the_scx n) its_own d free = go (dec_lt n (p.memory.scx_to + count))
         where
-          go : Dec (n < m.scx_to + count) → (the_scx n ≡ the_scx (m.scx_to + count)) ⊎ (n < m.scx_to)
+          go : Dec (n < p.memory.scx_to + count) → (the_scx n ≡ the_scx (p.memory.scx_to + count)) ⊎ (n < p.memory.scx_to)
           go (yes less) = absurd (free.1 (passed.taken n its_own less))
           go (no more) = inl (ap the_scx (omega (arith, d, more)))
       dealt (the_node i) its_own d free = inr d
 
-      undealt : (y : Record) → ¬ IsDealt (memory_with_scx m count slot) y → ¬ IsDealt m y
+      undealt : (y : Record) → ¬ IsDealt (memory_with_scx p.memory count slot rows) y → ¬ IsDealt p.memory y
       undealt (the_scx n) d z = d (omega (arith, z))
       undealt (the_node i) d z = d z
 
-      ready : IsReady allows t planting kept.held kept.last kept.tally s.words kept.owner id o mine.0 kept.rows may.is_pass (is_there allows t planting stays s kept id me.0 fits p m one recalled at left (scx_ahead m count) slot m.nodes_to (m.scx_to + suc count) may) (the_scx (m.scx_to + count)) m (memory_with_scx m count slot) rows
+      ready : IsReady allows t planting kept.held kept.last kept.tally s.words kept.owner id o mine.0 kept.rows may.is_pass (is_there allows t planting stays s kept id me.0 fits p one at left (scx_ahead p.memory count) slot p.memory.nodes_to (p.memory.scx_to + suc count) may) (the_scx (p.memory.scx_to + count)) p.memory (memory_with_scx p.memory count slot rows) rows
       ready = record {
         goes = passed.goes;
         run = passed.run;
         over = passed.over;
         passed = passed.passed;
-        free = ((λ e. let a = may.own.0.from in omega (arith, a, e)), passed.untaken (m.scx_to + count) may.own.0 (omega arith));
+        free = ((λ e. let a = may.own.0.from in omega (arith, a, e)), passed.untaken (p.memory.scx_to + count) may.own.0 (omega arith));
         dealt = dealt;
         undealt = undealt;
         itself = omega arith;
@@ -340,56 +338,56 @@ module _ (allows : Layout → History → ℕ → Type 0) (t : Lasting) (plantin
       }
 
 -- The name behind those that are dealt, of which some may be left, with none passed over.
-module _ (allows : Layout → History → ℕ → Type 0) (t : Lasting) (planting : PlantingView) (stays : StaysUnborn t.lay) (slots id : ℕ) (me : Me ℕ LastingView) (p : SeatedPass) (m : PassMemory) (one : me.0.passes ≡ p ∷ []) (recalled : me.0.memories ≡ m ∷ []) (at : ℕ) (left : Remaining) (slot : RecordNo) where
-  next_taken : (name : RecordNo) (nodes_to scx_to : ℕ) → MayTake t p m left name slot → IsLeft left (record_at name)
-      → ((y : Record) → IsDealt (memory_with m name slot nodes_to scx_to) y → (y ≡ record_at name) ⊎ IsDealt m y)
-      → ((y : Record) → ¬ IsDealt (memory_with m name slot nodes_to scx_to) y → ¬ IsDealt m y)
-      → IsDealt (memory_with m name slot nodes_to scx_to) (record_at name)
-      → Allows (TableLasts allows t planting) slots id me at (λ n. n) (λ n w. LearnsAtRest allows (memory_with m name slot nodes_to scx_to) me.0 w.0 × (w.1 ≡ me.1))
+module _ (allows : Layout → History → ℕ → Type 0) (t : Lasting) (planting : PlantingView) (stays : StaysUnborn t.lay) (slots id : ℕ) (me : Me ℕ SeatView) (p : SeatedPass) (one : me.0.passes ≡ p ∷ []) (at : ℕ) (left : Remaining) (slot : RecordNo) where
+  next_taken : (name : RecordNo) (nodes_to scx_to : ℕ) → MayTake t p left name slot → IsNotBefore left (record_at name)
+      → ((rows : List Row) (y : Record) → IsDealt (memory_with p.memory name slot nodes_to scx_to rows) y → (y ≡ record_at name) ⊎ IsDealt p.memory y)
+      → ((rows : List Row) (y : Record) → ¬ IsDealt (memory_with p.memory name slot nodes_to scx_to rows) y → ¬ IsDealt p.memory y)
+      → ((rows : List Row) → IsDealt (memory_with p.memory name slot nodes_to scx_to rows) (record_at name))
+      → Allows (TableLasts allows t planting) slots id me at (λ n. n) (λ n w. LearnsWith allows (memory_with p.memory name slot nodes_to scx_to) me.0 w.0 × (w.1 ≡ me.1))
   next_taken name nodes_to scx_to may is_left dealt undealt itself s kept sized fits small = (
-    record { passes = at_rest allows t planting s kept id me.0 fits p m one recalled ∷ []; memories = memory_with m name slot nodes_to scx_to ∷ [] },
+    seat_view (aware allows t planting s kept id me.0 fits p one (memory_with p.memory name slot nodes_to scx_to kept.rows) ∷ []),
     keeps,
     tt,
-    name_taken allows t planting stays s kept id me.0 fits p m one recalled at left name slot nodes_to scx_to may kept.rows record {
-      goes = goes_now allows t planting stays s kept id me.0 fits p m one recalled at left name slot nodes_to scx_to may;
+    name_taken allows t planting stays s kept id me.0 fits p one at left name slot nodes_to scx_to may kept.rows record {
+      goes = goes_now allows t planting stays s kept id me.0 fits p one at left name slot nodes_to scx_to may;
       run = kept.window.run;
-      over = over allows t planting s kept id me.0 fits p m one recalled may.over;
+      over = over allows t planting s kept id me.0 fits p one may.over;
       passed = none_passed t kept.held kept.last p.number.0 (history_of planting kept.rows);
-      free = left_untaken t.lay (history_of planting kept.rows) p.number.0 left (record_at name) may.own.0 is_left (its_share allows t planting stays s kept id me.0 fits p m one recalled at left name slot nodes_to scx_to may);
-      dealt = λ y its_own d free. dealt y d;
-      undealt = undealt;
-      itself = itself;
+      free = left_untaken t.lay (history_of planting kept.rows) p.number.0 left (record_at name) may.own.0 is_left (its_share allows t planting stays s kept id me.0 fits p one at left name slot nodes_to scx_to may);
+      dealt = λ y its_own d free. dealt kept.rows y d;
+      undealt = undealt kept.rows;
+      itself = itself kept.rows;
       others = λ n z. inl z;
     },
-    ((kept.rows, learnt_at_rest allows t planting s kept id me.0 fits p m one recalled, refl), refl),
+    ((kept.rows, learnt allows t planting s kept id me.0 fits p one refl), refl),
   )
 
-  pub lasting_next_node : MayTake t p m left (node_ahead m 0) slot → IsLeft left (record_at (node_ahead m 0)) → Allows (TableLasts allows t planting) slots id me at (λ n. n) (λ n w. LearnsAtRest allows (memory_with_node m 0 slot) me.0 w.0 × (w.1 ≡ me.1))
-  lasting_next_node may is_left = next_taken (node_ahead m 0) (m.nodes_to + 1) m.scx_to may is_left dealt undealt (omega arith)
+  pub lasting_next_node : MayTake t p left (node_ahead p.memory 0) slot → IsNotBefore left (record_at (node_ahead p.memory 0)) → Allows (TableLasts allows t planting) slots id me at (λ n. n) (λ n w. LearnsWith allows (memory_with_node p.memory 0 slot) me.0 w.0 × (w.1 ≡ me.1))
+  lasting_next_node may is_left = next_taken (node_ahead p.memory 0) (p.memory.nodes_to + 1) p.memory.scx_to may is_left dealt undealt (λ rows. omega arith)
     where
-      dealt : (y : Record) → IsDealt (memory_with_node m 0 slot) y → (y ≡ the_node (m.nodes_to + 0)) ⊎ IsDealt m y
-      dealt (the_node n) d = go (dec_lt n m.nodes_to)
+      dealt : (rows : List Row) (y : Record) → IsDealt (memory_with_node p.memory 0 slot rows) y → (y ≡ the_node (p.memory.nodes_to + 0)) ⊎ IsDealt p.memory y
+      dealt rows (the_node n) d = go (dec_lt n p.memory.nodes_to)
         where
-          go : Dec (n < m.nodes_to) → (the_node n ≡ the_node (m.nodes_to + 0)) ⊎ (n < m.nodes_to)
+          go : Dec (n < p.memory.nodes_to) → (the_node n ≡ the_node (p.memory.nodes_to + 0)) ⊎ (n < p.memory.nodes_to)
           go (yes less) = inr less
           go (no more) = inl (ap the_node (omega (arith, d, more)))
-      dealt (the_scx i) d = inr d
+      dealt rows (the_scx i) d = inr d
 
-      undealt : (y : Record) → ¬ IsDealt (memory_with_node m 0 slot) y → ¬ IsDealt m y
-      undealt (the_node n) d z = d (omega (arith, z))
-      undealt (the_scx i) d z = d z
+      undealt : (rows : List Row) (y : Record) → ¬ IsDealt (memory_with_node p.memory 0 slot rows) y → ¬ IsDealt p.memory y
+      undealt rows (the_node n) d z = d (omega (arith, z))
+      undealt rows (the_scx i) d z = d z
 
-  pub lasting_next_scx : MayTake t p m left (scx_ahead m 0) slot → IsLeft left (record_at (scx_ahead m 0)) → Allows (TableLasts allows t planting) slots id me at (λ n. n) (λ n w. LearnsAtRest allows (memory_with_scx m 0 slot) me.0 w.0 × (w.1 ≡ me.1))
-  lasting_next_scx may is_left = next_taken (scx_ahead m 0) m.nodes_to (m.scx_to + 1) may is_left dealt undealt (omega arith)
+  pub lasting_next_scx : MayTake t p left (scx_ahead p.memory 0) slot → IsNotBefore left (record_at (scx_ahead p.memory 0)) → Allows (TableLasts allows t planting) slots id me at (λ n. n) (λ n w. LearnsWith allows (memory_with_scx p.memory 0 slot) me.0 w.0 × (w.1 ≡ me.1))
+  lasting_next_scx may is_left = next_taken (scx_ahead p.memory 0) p.memory.nodes_to (p.memory.scx_to + 1) may is_left dealt undealt (λ rows. omega arith)
     where
-      dealt : (y : Record) → IsDealt (memory_with_scx m 0 slot) y → (y ≡ the_scx (m.scx_to + 0)) ⊎ IsDealt m y
-      dealt (the_scx n) d = go (dec_lt n m.scx_to)
+      dealt : (rows : List Row) (y : Record) → IsDealt (memory_with_scx p.memory 0 slot rows) y → (y ≡ the_scx (p.memory.scx_to + 0)) ⊎ IsDealt p.memory y
+      dealt rows (the_scx n) d = go (dec_lt n p.memory.scx_to)
         where
-          go : Dec (n < m.scx_to) → (the_scx n ≡ the_scx (m.scx_to + 0)) ⊎ (n < m.scx_to)
+          go : Dec (n < p.memory.scx_to) → (the_scx n ≡ the_scx (p.memory.scx_to + 0)) ⊎ (n < p.memory.scx_to)
           go (yes less) = inr less
           go (no more) = inl (ap the_scx (omega (arith, d, more)))
-      dealt (the_node i) d = inr d
+      dealt rows (the_node i) d = inr d
 
-      undealt : (y : Record) → ¬ IsDealt (memory_with_scx m 0 slot) y → ¬ IsDealt m y
-      undealt (the_scx n) d z = d (omega (arith, z))
-      undealt (the_node i) d z = d z
+      undealt : (rows : List Row) (y : Record) → ¬ IsDealt (memory_with_scx p.memory 0 slot rows) y → ¬ IsDealt p.memory y
+      undealt rows (the_scx n) d z = d (omega (arith, z))
+      undealt rows (the_node i) d z = d z

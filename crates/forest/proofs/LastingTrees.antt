@@ -8,16 +8,15 @@ use Rattle.planting.specs.Plantings.{PlantingView}
 use Rattle.ordered_map.specs.Paths.{WasInTree}
 use Rattle.ordered_map.specs.Runs.{IsMapRun}
 use Rattle.touching.specs.Kinds.{IsInTree}
-use Rattle.touching.proofs.Lemmas.{there_not_final}
+use Rattle.touching.proofs.Lemmas.{never_stood, there_not_final}
 use Rattle.resting.specs.Records.{the_node, record_of}
 use Rattle.resting.specs.Rests.{HaveRestedAt}
 use Rattle.slots.specs.Held.{IsHeld}
 use Rattle.slots.specs.Lasting.{Lasting, table_place}
-use Rattle.slots.proofs.Lemmas.{never_stood}
 use Rattle.forest.specs.TableRule.{history_of}
 use Rattle.forest.specs.LastingMemory.{IsGone}
 use Rattle.forest.specs.LastingRule.{TableLasts}
-use Rattle.forest.specs.declared.lasting_view.LastingView.{LastingView}
+use Rattle.forest.specs.declared.view.SeatView.{SeatView}
 use Rattle.forest.proofs.LastingKept.{StaysUnborn}
 
 -- whether a node was taken
@@ -61,7 +60,7 @@ not_gone lay h last n run rested stays there (inl final) = true≢false (sym fin
 not_gone lay h last n run rested stays there (inr (inl left)) = left.out there
 not_gone lay h last n run rested stays there (inr (inr z)) = (stays h z.0 (last z.0) n z.1 run (rested z.0 z.1) z.2).never (stands h n there)
 
-module _ (allows : Layout → History → ℕ → Type 0) (t : Lasting) (planting : PlantingView) (stays : StaysUnborn t.lay) (s : State ℕ LastingView) (kept : TableLasts allows t planting s) (n : ℕ) (there : IsInTree (history_of planting kept.rows) n) where
+module _ (allows : Layout → History → ℕ → Type 0) (t : Lasting) (planting : PlantingView) (stays : StaysUnborn t.lay) (s : State ℕ SeatView) (kept : TableLasts allows t planting s) (n : ℕ) (there : IsInTree (history_of planting kept.rows) n) where
   pub tree_held : IsHeld t kept.held (the_node n)
   tree_held = go (taken_discrete (history_of planting kept.rows) n) (dec_lt n (opening_nodes t.lay))
     where

@@ -42,7 +42,7 @@ module _ (allows : Layout → History → ℕ → Type 0) (plot : Plot) (slots i
       let h : History = history_of plot.planting run in
       let same : past_of p own.2.0 ≡ h = ap (λ (g : Plot). history_of g.planting run) own.1 in
       let r : Row = row p.number.0 said h in
-      let w : SeatView = seat_view (seated_pass p.number.0 p.layout p.planting p.rested (row p.number.0 said (past_of p own.2.0) ∷ run) ∷ []) in
+      let w : SeatView = seat_view (seated_pass p.number.0 p.layout p.planting p.memory (row p.number.0 said (past_of p own.2.0) ∷ run) ∷ []) in
       let sound : IsRun allows plot.layout h = subst (λ l. IsRun allows plot.layout (history_of plot.planting l)) own.2.1 kept.sound in
       let before : IsRun allows p.layout (past_of p own.2.0) = subst (λ (g : Plot). IsRun allows g.layout (history_of g.planting run)) (sym own.1) sound in
       let then = may own.2.0 own.2.2 before in
@@ -99,7 +99,7 @@ module _ (allows : Layout → History → ℕ → Type 0) (plot : Plot) (slots i
       let h : History = history_of plot.planting run in
       let r : Row = row p.number.0 look h in
       let mine : List Row = row p.number.0 look (history_of p.planting run) ∷ run in
-      let w : SeatView = seat_view (q ∷ seated_pass p.number.0 p.layout p.planting p.rested mine ∷ []) in
+      let w : SeatView = seat_view (q ∷ seated_pass p.number.0 p.layout p.planting p.memory mine ∷ []) in
       let found : slice_index s.words at ≡ value h (node 0 (Settled Head)) = ap (slice_index s.words) is ∙ kept.holds (node 0 (Settled Head)) (head_inside plot.layout) in
       let apart_passes : p.number.0 ≢ q.number.0 = λ e. own.3.0 (sym e) in
       let mine_is : mine ≡ r ∷ run = ap (λ (g : Plot). row p.number.0 look (history_of g.planting run) ∷ run) own.1 in (

@@ -18,7 +18,7 @@ use Rattle.forest.specs.Traces.{Stands, seat_steps}
 use Rattle.forest.specs.StraightCalls.{IsSameDictCall, SeatDictEnds}
 use Rattle.forest.proofs.DictCalls.{behind, dict_pass}
 use Rattle.forest.proofs.Passes.{steps_are}
-use Rattle.forest.proofs.WholeCalls.{ended, says}
+use Rattle.forest.proofs.WholeCalls.{ended, left_end, says}
 
 abbrev numbered : ℕ → PassNo
 numbered n = record { 0 = n }
@@ -43,7 +43,7 @@ module _ {K V B : Type 0} (valid_key : K → Type 0) (key : K → ℕ) (valid_va
     back_is = rw (number_is, x.kept.layout, gives, blames, x.kept.blamed) refl
 
     pub open_pass : IsPass (TypedAllows (IsWordOf valid_key key) (IsWordOf valid_value value_word)) (map_mode trie) back
-    open_pass = subst (λ p. IsPass (TypedAllows (IsWordOf valid_key key) (IsWordOf valid_value value_word)) (map_mode trie) p) (sym back_is) (dict_pass valid_key key valid_value value_word trie was x.pass o.seat o.run reply (ended valid_key key valid_value value_word trie was x.pass o.seat x.first o.run reply ends) x.bare)
+    open_pass = subst (λ p. IsPass (TypedAllows (IsWordOf valid_key key) (IsWordOf valid_value value_word)) (map_mode trie) p) (sym back_is) (dict_pass valid_key key valid_value value_word trie was x.pass o.seat o.run reply (left_end valid_key key valid_value value_word trie was x.pass o.seat x.first o.run reply ends x.had) (ended valid_key key valid_value value_word trie was x.pass o.seat x.first o.run reply ends) x.bare)
 
     -- it has made the steps that were counted
     pub open_made : steps_of (pass_view back) ≡ steps_of o.began.value + (seat_steps o.seat.me.0.passes - steps_of o.began.value)
@@ -52,4 +52,4 @@ module _ {K V B : Type 0} (valid_key : K → Type 0) (key : K → ℕ) (valid_va
     -- and it says what a whole call says
     pub open_called : (f : Ground) → IsOf f o.began.value → o.run.tries ≡ f.tries → HasCalledIn trie valid_key key valid_value value_word f o.began.value (pass_view back) (call_in o.run.run) reply
     open_called f of tries = subst (λ p. HasCalledIn trie valid_key key valid_value value_word f o.began.value (pass_view p) (call_in o.run.run) reply) (sym back_is)
-        (says valid_key key valid_value value_word trie was x.pass o.seat x.first o.run reply ends f of (call_in o.run.run) refl tries x.table (let z = rw (x.kept.layout, of.1, tries) at x.steps in omega (arith, z)) x.nothing)
+        (says valid_key key valid_value value_word trie was x.pass o.seat x.first o.run reply ends x.had f of (call_in o.run.run) refl tries x.table (let z = rw (x.kept.layout, of.1, tries) at x.steps in omega (arith, z)) x.nothing)

@@ -36,12 +36,12 @@ module _ {K V : Type 0} (valid_key : K → Type 0) (key : K → ℕ) (valid_valu
 
   -- it is of the same call as the first
   pub same_so_far : (c : Call) (ps : List SeatedPass) (first m : DictRun K V) (turn : Turn (Reply K V)) → DictStands c ps first m turn → IsSameCall valid_key key valid_value value first m
-  same_so_far c ps first m (Ask s) y = course_keeps (λ (k : DictRun K V). IsSameCall valid_key key valid_value value first k) (refl, refl) (λ old now e q. (e.0 ∙ q.0, e.1 ∙ q.1)) m _ y.so.1
-  same_so_far c ps first m (Done a) y = course_keeps (λ (k : DictRun K V). IsSameCall valid_key key valid_value value first k) (refl, refl) (λ old now e q. (e.0 ∙ q.0, e.1 ∙ q.1)) m _ y.so.1
+  same_so_far c ps first m (Ask s) y = course_keeps (λ (k : DictRun K V). IsSameCall valid_key key valid_value value first k) (refl, refl, refl) (λ old now e q. (e.0 ∙ q.0, e.1 ∙ q.1, e.4 ∙ q.2)) m _ y.so.1
+  same_so_far c ps first m (Done a) y = course_keeps (λ (k : DictRun K V). IsSameCall valid_key key valid_value value first k) (refl, refl, refl) (λ old now e q. (e.0 ∙ q.0, e.1 ∙ q.1, e.4 ∙ q.2)) m _ y.so.1
 
   -- one that has answered is over
   pub is_answered : {B : Type 0} {trie : Bool} (o : Inside K V B) → IsOpen valid_key key valid_value value trie o → (reply : Reply K V) → o.turn ≡ Done reply → IsOpen valid_key key valid_value value trie (record o { over = true })
-  is_answered o x reply is = record { pass = x.pass; table = x.table; bare = x.bare; kept = x.kept; first = x.first; stands = x.stands; since = x.since; steps = x.steps; over = λ e. rw is tt; none = λ e. absurd (differ e); nothing = x.nothing }
+  is_answered o x reply is = record { pass = x.pass; table = x.table; bare = x.bare; kept = x.kept; first = x.first; had = x.had; stands = x.stands; since = x.since; steps = x.steps; over = λ e. rw is tt; none = λ e. absurd (differ e); nothing = x.nothing }
 
   module _ {B : Type 0} {trie : Bool} (o : Inside K V B) (x : IsOpen valid_key key valid_value value trie o) (step : Step) (is : o.turn ≡ Ask step) where
     -- the machine waits for this step
@@ -63,7 +63,7 @@ module _ {K V : Type 0} (valid_key : K → Type 0) (key : K → ℕ) (valid_valu
 
       -- it is of the same call as before
       pub same_call : IsSameCall valid_key key valid_value value o.run m
-      same_call = let a = same_so_far _ _ x.first o.run o.turn x.stands in let b = same_so_far _ _ x.first m turn stood in (b.0 ∙ sym a.0, b.1 ∙ sym a.1)
+      same_call = let a = same_so_far _ _ x.first o.run o.turn x.stands in let b = same_so_far _ _ x.first m turn stood in (b.0 ∙ sym a.0, b.1 ∙ sym a.1, b.2 ∙ sym a.2)
 
       -- what its pass knows by now is a run
       pub stays_lawful : IsRun (TypedAllows (IsWordOf valid_key key) (IsWordOf valid_value value)) o.began.value.layout (run_at s.me.0.passes)
@@ -88,6 +88,7 @@ module _ {K V : Type 0} (valid_key : K → Type 0) (key : K → ℕ) (valid_valu
           bare = bare ∙ x.bare;
           kept = x.kept;
           first = x.first;
+          had = x.had;
           stands = stood;
           since = let z = x.since in omega (arith, one, z);
           steps = rw (same_call.0, same_call.1) few;

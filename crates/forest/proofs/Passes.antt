@@ -1,7 +1,7 @@
 -- What a call leaves of a pass.
-use Rattle.std.proofs.Common.{◌≡◌, ◌≢◌, ℕ, ◌+◌, ◌≤◌, List, [], inl, refl, sym, ◌∙◌, ap, subst, arith}
+use Rattle.std.proofs.Common.{◌≡◌, ◌≢◌, ℕ, ◌+◌, ◌-◌, ◌≤◌, List, [], inl, refl, sym, ◌∙◌, ap, subst, arith}
 use Rattle.atomic_table.specs.declared.shared.Seat.{Seat}
-use Rattle.histories.specs.Common.{Layout, Step, Fill, History, Opening, Opened, Start, Lawful, Call, IsRun, Shaped, Mode}
+use Rattle.histories.specs.Common.{Layout, Step, Fill, Remaining, first_scx, History, Opening, Opened, Start, Lawful, Call, IsRun, Shaped, Mode}
 use Rattle.arena.specs.Share.{whole_share}
 use Rattle.arena.proofs.Lemmas.{ends_self}
 use Rattle.prims.specs.declared.snap.Snap.{Snap}
@@ -9,11 +9,11 @@ use Rattle.forest.specs.declared.view.SeatedPass.{SeatedPass}
 use Rattle.forest.specs.declared.view.SeatView.{SeatView}
 use Rattle.forest.specs.declared.pass.Pass.TheInside.{Inside}
 use Rattle.forest.specs.TableRule.{history_of}
-use Rattle.forest.specs.Traces.{IsSeated, Trace, HoldsForCall, known_of, planting_of, rested_of, run_at, rows_of, seat_steps}
+use Rattle.forest.specs.Traces.{IsSeated, Trace, HoldsForCall, known_of, planting_of, memory_of, run_at, rows_of, seat_steps}
 use Rattle.forest.specs.Shares.{IsBetweenCalls}
 use Rattle.forest.specs.Passes.{PassView, Ground, IsOf, AreOfCall, CanUse, HasGoneOn, HasTakenNothing, IsLaterView, run_of}
 use Rattle.forest.specs.PassInvariant.{pass_view, IsPass}
-use Rattle.prims.proofs.Lemmas.{whole_untouched, none_taken, next_unwon, usable_since}
+use Rattle.prims.proofs.Lemmas.{upper_end, whole_untouched, none_taken, next_unwon, usable_since}
 use Rattle.forest.proofs.Frames.{CarriesOn}
 use Rattle.forest.proofs.Calls.{quiet_goes}
 use Rattle.forest.proofs.Advances.{call_back}
@@ -26,7 +26,11 @@ begins_lawful lay = (refl, omega arith)
 
 -- a pass with its whole share is at rest at the start
 pub begins_at_rest : (lay : Layout) (o : Opening) (c : ℕ) → Lawful lay (Opened o) → IsBetweenCalls lay c (Opened o) (whole_share lay c)
-begins_at_rest lay o c lawful = record { share = whole_untouched lay o c lawful; over = λ s own d t. absurd (none_taken o s t) }
+begins_at_rest lay o c lawful = record { share = whole_untouched lay o c lawful; upper = refl; over = λ s own d t. absurd (none_taken o s t) }
+
+-- what is gone of its share is what it has taken
+pub taken_is : (lay : Layout) (c : ℕ) (h : History) (left : Remaining) → IsBetweenCalls lay c h left → lay.scx - left.scx ≡ left.next_scx - first_scx lay c
+taken_is lay c h left x = let a = x.share.from_scx in let b = (upper_end lay c left x.upper).1 in omega (arith, a, b)
 
 pub begins_sound : (allows : Layout → History → ℕ → Type 0) (lay : Layout) → IsRun allows lay (Start lay.mode)
 unfolding Shaped
@@ -42,7 +46,7 @@ call_of p x number = record { layout = p.layout; pass = p.number.0; is_pass = x.
 
 -- a call of it begins where P holds of what it knows
 pub begun_with : {allows : Layout → History → ℕ → Type 0} {mode : Mode} {T : Type 0} (p : Inside T) (x : IsPass allows mode p) (number : ℕ) {P : History → Type 0} → P (run_at p.seat.me.0.passes) → HoldsForCall allows p.seat.me.0.passes (call_of p x number) (λ h. ((call_of p x number).start ≡ h) × P h)
-begun_with p x number holds = record { planting = planting_of p.seat.me.0.passes; known = known_of p.seat.me.0.passes; is = record { rested = rested_of p.seat.me.0.passes; alone = x.seat.alone; since = x.seat.since }; sound = x.sound; so = (refl, holds) }
+begun_with p x number holds = record { planting = planting_of p.seat.me.0.passes; known = known_of p.seat.me.0.passes; is = record { memory = memory_of p.seat.me.0.passes; alone = x.seat.alone; since = x.seat.since }; sound = x.sound; so = (refl, holds) }
 
 -- the pass with its seat as it is now
 abbrev pub seated : {T : Type 0} → Inside T → Seat ℕ SeatView → Inside T
@@ -67,7 +71,7 @@ called {allows} p x s number waits same first m A fills_not y =
 
 -- it is a pass again
 pub called_pass : {allows : Layout → History → ℕ → Type 0} {mode : Mode} {T : Type 0} (p : Inside T) (x : IsPass allows mode p) (s : Seat ℕ SeatView) (number : ℕ) (A : History → Type 0) → s.me.1 ≡ p.seat.me.1 → HasOnlyLoaded allows p s number A → IsPass allows mode (seated p s)
-called_pass p x s number A bare y = record { seat = y.seat; bare = bare ∙ x.bare; is_mode = x.is_mode; is_pass = x.is_pass; sound = y.goes.sound; rest = record { share = y.goes.share; over = y.goes.over }; blamed = blamed_later (pass_view p) (pass_view (seated p s)) refl refl refl y.goes.sound.lawful y.goes.since x.blamed }
+called_pass p x s number A bare y = record { seat = y.seat; bare = bare ∙ x.bare; is_mode = x.is_mode; is_pass = x.is_pass; sound = y.goes.sound; rest = record { share = y.goes.share; upper = x.rest.upper; over = y.goes.over }; blamed = blamed_later (pass_view p) (pass_view (seated p s)) refl refl refl y.goes.sound.lawful y.goes.since x.blamed }
 
 -- it has taken nothing
 pub called_nothing : {allows : Layout → History → ℕ → Type 0} {T : Type 0} (p : Inside T) (s : Seat ℕ SeatView) (number : ℕ) (A : History → Type 0) → HasOnlyLoaded allows p s number A → HasTakenNothing (pass_view p) (pass_view (seated p s))

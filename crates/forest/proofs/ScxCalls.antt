@@ -1,23 +1,24 @@
 -- What a call of `scx` says.
 use Rattle.std.proofs.Common.{◌≡◌, ◌<◌, ◌≤◌, ◌+◌, ◌⊎◌, ◌↔◌, ℕ, inl, inr, Bool, true, false, cond, eqb, List, [], ◌∷◌, length, None, refl, sym, ◌∙◌, ap, subst, arith}
 use Rattle.atomic_table.specs.declared.shared.Seat.{Seat}
-use Rattle.histories.specs.Common.{Layout, NodeNo, Side, state, value, History, Opened, ◌⊳◌, Extends, IsOwnNode, IsOwnScx, IsTakenScx, Lawful, HasWon, Entry, log, has, IsEntered, Freeze, Records}
+use Rattle.histories.specs.Common.{Layout, NodeNo, Side, state, value, History, Opened, ◌⊳◌, Extends, IsOwnNode, IsOwnScx, IsTakenScx, Lawful, HasWon, Entry, log, has, IsEntered, Freeze, Records, Resource, Nodes}
 use Rattle.arena.specs.Log.{AreOnce}
 use Rattle.histories.proofs.Lemmas.{IsIn, Logs, aborted_never_won, lawful_tail, logs, newest, older, once, same as log_same, wins as log_wins}
 use Rattle.template.specs.Common.{AllowsAll, HasChanged, IsAmong, ListsNode, update_field_index, snap_at, nodes_of, PutIsReady, PutWaits, PutAnswers, Snap, Scx, Done, Lost, PutRun}
 use Rattle.prims.specs.Moments.{IsAsFound}
 use Rattle.prims.specs.Scx.Known.{IsEntryAt, IsDone as IsScxDone, removed_nodes, update_entry}
-use Rattle.prims.proofs.Lemmas.{removed_those, left_own_node, left_own_scx, taken_share, next_free, next_unwon, all_over, put_ready_first}
+use Rattle.prims.proofs.Lemmas.{removed_those, left_own_node, left_own_scx, same_end, taken_share, upper_end, next_free, next_unwon, all_over, put_ready_first}
 use Rattle.prims.specs.declared.scx.ScxAt.TheVariants.{Start as ScxStart}
 use Rattle.prims.specs.declared.put.PutAt.TheVariants.{Start as PutStart}
-use Rattle.arena.specs.Share.{after_taking}
+use Rattle.arena.specs.Share.{after_taking, IsFullOf}
+use Rattle.arena.specs.declared.fault.Resource.TheVariants.{Scx as ScxRecords}
 use Rattle.forest.specs.declared.view.SeatView.{SeatView}
 use Rattle.forest.specs.declared.pass.Pass.TheInside.{Inside}
 use Rattle.forest.specs.TableRule.{history_of}
 use Rattle.forest.specs.Traces.{IsSeated, Trace, HoldsForCall, seat_steps, run_at}
-use Rattle.forest.specs.Shares.{entries_of}
+use Rattle.forest.specs.Shares.{IsBetweenCalls, entries_of}
 use Rattle.forest.specs.Puts.{IsPutOver}
-use Rattle.forest.specs.Passes.{AreOfCall, HasGoneOn, IsLaterView, CanUse, HasLeftAlone, Each, ScxSays, done_of, taken_of}
+use Rattle.forest.specs.Passes.{PassView, AreOfCall, HasGoneOn, IsAllTaken, IsLaterView, CanUse, HasLeftAlone, Each, ScxSays, done_of, run_of, taken_of}
 use Rattle.forest.specs.PassInvariant.{pass_view, IsPass}
 use Rattle.forest.proofs.Frames.{CarriesOn}
 use Rattle.forest.proofs.Calls.{HasHand, course_keeps, put_goes, put_rests}
@@ -89,6 +90,11 @@ put_same old now snaps finalize field v node scx number s x = record {
   is_value = s.3 ∙ x.is_value;
 }
 
+-- where none of its names is left, all of them are taken
+pub all_taken : (p : PassView) (what : Resource) (k : ℕ) → IsBetweenCalls p.layout p.number (run_of p) p.share → IsFullOf p.share what k → IsAllTaken p what
+all_taken p Nodes k x full = λ n own. x.share.taken_nodes n own (let e = (upper_end p.layout p.number p.share x.upper).0 in let z = full.0 in let b = own.below in omega (arith, e, z, b))
+all_taken p ScxRecords k x full = λ s own. x.share.taken_scx s own (let e = (upper_end p.layout p.number p.share x.upper).1 in let z = full.1 in let b = own.below in omega (arith, e, z, b))
+
 -- it has the next records of the pass's share, and the snapshots, in hand
 put_hand : (m : PutRun) (snaps : List Snap) (finalize : List NodeNo) (field : ℕ × Side) (v node scx number : ℕ) → IsPutOver m snaps finalize field v node scx number → HasHand m node scx snaps
 put_hand m snaps finalize field v node scx number x = record { fresh = x.fresh; record_is = x.record_is; snaps_are = x.snaps_are }
@@ -113,8 +119,8 @@ module _ {T : Type 0} (p : Inside T) (x : IsPass AllowsAll Records p) (some_node
   pub put_begins : (m : PutRun) → Is m → m.at ≡ PutStart → m.scx.at ≡ ScxStart → Each (CanUse (pass_view p)) snaps → HoldsForCall AllowsAll p.seat.me.0.passes (call_of p x number) (λ h. ((call_of p x number).start ≡ h) × PutIsReady AllowsAll m (call_of p x number) h None)
   put_begins m of at scx_at usable = begun_with p x number (put_ready_first p.layout p.number.0 number x.is_pass start m x.sound.lawful of.over (rw of.snaps_are (each_at (CanUse (pass_view p)) snaps usable)) at
       scx_at (rw of.record_is own_scx) (rw of.record_is x.rest.share.taken_scx) (rw of.record_is free) (rw of.fresh own_node) (rw of.fresh x.rest.share.taken_nodes)
-      (rw of.fresh (x.rest.share.unmentioned p.share.next_node record { from = omega arith; below = omega arith }))
-      (rw of.fresh (x.rest.share.untaken_nodes p.share.next_node record { from = omega arith; below = omega arith }))
+      (rw of.fresh (x.rest.share.unmentioned p.share.next_node own_node (omega arith)))
+      (rw of.fresh (x.rest.share.untaken_nodes p.share.next_node own_node (omega arith)))
       (all_over p.layout start p.number.0 p.share _ _ x.rest.share x.rest.over))
 
   -- what the pass has after the call
@@ -156,7 +162,7 @@ module _ {T : Type 0} (p : Inside T) (x : IsPass AllowsAll Records p) (some_node
     is_mode = x.is_mode;
     is_pass = x.is_pass;
     sound = y.goes.sound;
-    rest = put_rests (call_of p x number) y.run _ a (after_taking p.share) p.share.next_node p.share.next_scx snaps (put_hand y.run snaps finalize field v p.share.next_node p.share.next_scx number y.is_of) (omega arith) (omega arith) (λ e. let q = own_scx.from in omega arith) y.answers y.goes;
+    rest = put_rests (call_of p x number) y.run _ a (after_taking p.share) p.share.next_node p.share.next_scx snaps (put_hand y.run snaps finalize field v p.share.next_node p.share.next_scx number y.is_of) (omega arith) (omega arith) (λ e. let q = own_scx.from in omega arith) y.answers y.goes (same_end p.share some_node some_scx ∙ x.rest.upper);
     blamed = blamed_later (pass_view p) (pass_view (spent s)) refl refl refl y.goes.sound.lawful y.goes.since x.blamed;
   }
 

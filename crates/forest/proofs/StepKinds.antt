@@ -6,6 +6,7 @@ use Rattle.atomic_table.specs.Seated.{TableId}
 use Rattle.atomic_table.specs.declared.shared.Seat.{Seat}
 use Rattle.histories.specs.Common.{Layout, Row, Step, History, ◌⊳◌, Extends, Call, Remaining}
 use Rattle.arena.proofs.Lemmas.{ends_trans}
+use Rattle.prims.specs.Shares.{share_end}
 use Rattle.prims.proofs.Lemmas.{all_over}
 use Rattle.template.specs.Common.{call_rules, MapCall, Reply}
 use Rattle.ordered_map.specs.declared.reply.Reply.TheVariants as replies
@@ -82,7 +83,7 @@ module _ {K V : Type 0} (valid_key : K → Type 0) (key : K → ℕ) (valid_valu
     pub dict_kinds : (first : DictRun K V) → HoldsForCall allows s.me.0.passes call (λ h. Ended h × Trace allows waits same call first m h) → HasKeptToKinds (pass_view p) now (call_in m.run)
     dict_kinds first y =
         let run : history_of y.planting y.known ≡ run_at s.me.0.passes = sym (ap run_at y.is.alone) in
-        let is : call_in m.run ≡ call_in first.run = (course_keeps (λ (k : DictRun K V). IsSameCall valid_key key valid_value value_word first k) (refl, refl) (λ old now e q. (e.0 ∙ q.0, e.1 ∙ q.1)) m _ y.so.1).0 in
+        let is : call_in m.run ≡ call_in first.run = (course_keeps (λ (k : DictRun K V). IsSameCall valid_key key valid_value value_word first k) (refl, refl, refl) (λ old now e q. (e.0 ∙ q.0, e.1 ∙ q.1, e.4 ∙ q.2)) m _ y.so.1).0 in
         subst (λ (h : History). HoldsOfOwn (λ r. (call_rules (call_in m.run)).MayMake r.kind) p.number.0 (run_of (pass_view p)) h) run
         (course_holds waits same call first (λ r. (call_rules (call_in m.run)).MayMake r.kind) (λ (k : DictRun K V). call_in k.run ≡ call_in m.run) (sym is) (λ old now e q. e.0 ∙ q) (λ k h t q w. subst (λ (asked : MapCall). (call_rules asked).MayMake t.kind) q (kind_inside (inner k.run) (is_of_kind k.run) call h t w.1.1)) m _ y.so.1).1
 
@@ -91,12 +92,12 @@ module _ {K V : Type 0} (valid_key : K → Type 0) (key : K → ℕ) (valid_valu
     seen table share planting known blamed = record { table = table; layout = p.layout; planting = planting; number = p.number.0; share = share; known = known; blamed = blamed }
 
     -- a call after which its pass knows what it knew before has left the pass as it was
-    pub dict_nothing : HasEnded allows p s (taken_of (pass_view p)) Ended → s.table_id ≡ p.seat.table_id → KnowsAs s.me.0.passes (planting_of p.seat.me.0.passes) (known_of p.seat.me.0.passes) → now ≡ pass_view p
-    dict_nothing y table known =
+    pub dict_nothing : share_end (share_of m.run) ≡ share_end p.share → HasEnded allows p s (taken_of (pass_view p)) Ended → s.table_id ≡ p.seat.table_id → KnowsAs s.me.0.passes (planting_of p.seat.me.0.passes) (known_of p.seat.me.0.passes) → now ≡ pass_view p
+    dict_nothing end y table known =
         let run : run_of now ≡ run_of (pass_view p) = ap (λ (b : PlantingView). history_of b (known_of s.me.0.passes)) known.0 ∙ ap (history_of (planting_of p.seat.me.0.passes)) known.1 in
         let rests : RestsWith call (run_of (pass_view p)) p.share = record { share = x.rest.share; over = all_over p.layout _ p.number.0 p.share p.share.next_node p.share.next_scx x.rest.share x.rest.over } in
-        let share : share_of m.run ≡ p.share = one_share call (run_of now) (share_of m.run) p.share y.answers.rests (subst (λ h. RestsWith call h p.share) (sym run) rests) in
-        let blamed : blamed_by_reply reply p.blamed ≡ p.blamed = blames_none (pass_view p) now m.tries (call_in m.run) reply p.blamed run (dict_refuses valid_key key valid_value value_word trie p x s m reply y) in
+        let share : share_of m.run ≡ p.share = one_share call (run_of now) (share_of m.run) p.share end y.answers.rests (subst (λ h. RestsWith call h p.share) (sym run) rests) in
+        let blamed : blamed_by_reply reply p.blamed ≡ p.blamed = blames_none (pass_view p) now m.tries (call_in m.run) reply p.blamed run (dict_refuses valid_key key valid_value value_word trie p x s m reply end y) in
         ap (λ t. seen t (share_of m.run) (planting_of s.me.0.passes) (known_of s.me.0.passes) (blamed_by_reply reply p.blamed)) table
         ∙ ap (λ r. seen p.seat.table_id r (planting_of s.me.0.passes) (known_of s.me.0.passes) (blamed_by_reply reply p.blamed)) share
         ∙ ap (λ b. seen p.seat.table_id p.share b (known_of s.me.0.passes) (blamed_by_reply reply p.blamed)) known.0

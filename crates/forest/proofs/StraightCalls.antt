@@ -106,7 +106,7 @@ module _ {K V : Type 0} (valid_key : K → Type 0) (key : K → ℕ) (valid_valu
       same_mode old now e = ap (λ (d : KeyEdit G R). trie d.goal) e
 
       goes : (old now : UpdateRun (KeyEdit G R) UpdateAt) → HasUpdateGoneOn (key_means goal trie rule) old now (node_tries now now.at) (scx_tries now now.at) → Goes (Update (valued old)) machine.tries c → Goes (Update (valued now)) machine.tries c
-      goes old now on x = edit_goes machine.tries c (valued old) (valued now) x (same_edit old now on.edit) on.called on.limit on.spends
+      goes old now on x = edit_goes machine.tries c (valued old) (valued now) x (same_edit old now on.edit) on.called on.limit on.end on.spends
 
       pub editor : Updater (dict_calls layout number) (key_means goal trie rule)
       editor = record {
@@ -119,7 +119,7 @@ module _ {K V : Type 0} (valid_key : K → Type 0) (key : K → ℕ) (valid_valu
         opens = λ m h s x. x.1.1;
         tells = λ m h got x. x.1.1;
         turns = λ old now h got s on x w. (subst (IsTypedCall keys values) (sym (same_call old now on.edit)) x.0, (goes old now on x.1.0, w));
-        stays = λ old now on. (same_call old now on.edit, refl, (on.tries.1, on.tries.0), same_mode old now on.edit);
+        stays = λ old now on. (same_call old now on.edit, refl, (on.tries.1, on.tries.0), same_mode old now on.edit, on.end);
       }
 
       pub edit_begins : (ps : List SeatedPass) {A : Type 0} (m : UpdateRun (KeyEdit G R) A) → machine.run ≡ Edit (valued (standing m Start)) → SeatDictBegins valid_key key valid_value value_word c ps machine → UpdaterBegins editor ps m
@@ -145,8 +145,8 @@ module _ {K V : Type 0} (valid_key : K → Type 0) (key : K → ℕ) (valid_valu
             is = x.is;
             sound = x.sound;
             so = (
-              (dict_mode c.layout.mode (trie y.old.edit.goal) went.mode, subst (λ (w : Goal). InnerAnswers machine.tries (Update (valued (standing m Start))) c (history_of x.planting x.known) (edit_reply w a)) walk (edit_ends machine.tries c _ (valued y.old) (valued (standing m Start)) a (typed_run keys values c.layout _ x.sound) went (same_edit y.old (standing m Start) y.goes.edit) y.goes.called y.goes.limit y.goes.spends y.answers)),
-              goes_on (editing y.old) (same_call y.old (standing m Start) y.goes.edit, refl, (y.goes.tries.1, y.goes.tries.0), same_mode y.old (standing m Start) y.goes.edit) y.course,
+              (dict_mode c.layout.mode (trie y.old.edit.goal) went.mode, subst (λ (w : Goal). InnerAnswers machine.tries (Update (valued (standing m Start))) c (history_of x.planting x.known) (edit_reply w a)) walk (edit_ends machine.tries c _ (valued y.old) (valued (standing m Start)) a (typed_run keys values c.layout _ x.sound) went (same_edit y.old (standing m Start) y.goes.edit) y.goes.called y.goes.limit y.goes.end y.goes.spends y.answers)),
+              goes_on (editing y.old) (same_call y.old (standing m Start) y.goes.edit, refl, (y.goes.tries.1, y.goes.tries.0), same_mode y.old (standing m Start) y.goes.edit, y.goes.end) y.course,
             );
           }
 
@@ -157,7 +157,7 @@ module _ {K V : Type 0} (valid_key : K → Type 0) (key : K → ℕ) (valid_valu
       reading m = record machine { run = d.around m share }
 
       same_read : (old now : ReadRun d.kind.R) → IsSameRead d.kind.means old now → same (reading old) (reading now)
-      same_read old now x = rw (d.inside old share, d.inside now share) (x.0, refl, (x.2, x.3), x.4)
+      same_read old now x = rw (d.inside old share, d.inside now share) (x.0, refl, (x.2, x.3), x.4, refl)
 
       -- what it gets, and what it then waits for, its machine does
       told_inside : (m : ReadRun d.kind.R) (h : History) (got : Option ℕ) → ready (reading m) c h got → Goes (Read d.kind m share) machine.tries c × (ReadIsReady d.kind.means m c h got × HasRested c h share)

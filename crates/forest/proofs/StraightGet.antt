@@ -75,7 +75,7 @@ module _ {K V : Type 0} (valid_key : K → Type 0) (key : K → ℕ) (valid_valu
       with_run = λ w. at w.0;
       tells = λ w h v run x. (c, x.1.1.0.0);
       turns = λ old now h v s goes next run x. (x.0, (record { mode = x.1.0.mode ∙ ap (λ w. map_mode (is_in_trie w)) (sym goes.1.1); small = x.1.0.small; number = x.1.0.number; limit = tt; spent = x.1.0.spent }, ((next c x.1.1.0.0, (goes.1.0 ∙ x.1.1.0.1.0, subst (λ w. w ≡ leaf_way (is_in_trie w)) (sym goes.1.1) x.1.1.0.1.1), once_past now.0.at _ _ goes.0 x.1.1.0.2), x.1.1.1)));
-      stays = λ old now v goes. (refl, refl, (omega arith, omega arith), ap is_in_trie goes.1.1);
+      stays = λ old now v goes. (refl, refl, (omega arith, omega arith), ap is_in_trie goes.1.1, refl);
     }
 
   -- its machine waits for the head of the root
@@ -85,7 +85,7 @@ module _ {K V : Type 0} (valid_key : K → Type 0) (key : K → ℕ) (valid_valu
   get_walks trie p x tries wanted number way layout is_layout is_number is_way small =
       let first : DictRun K V = getting p.share tries wanted (way_at way (ToKey wanted) root_trail Start) in
       let c : Call = call_of p x (taken_of (pass_view p)) in
-      starts allows ready waits same c p.seat.me.0.passes first (getting p.share tries wanted (way_from way (ToKey wanted))) _ (refl, refl, (omega arith, omega arith), refl)
+      starts allows ready waits same c p.seat.me.0.passes first (getting p.share tries wanted (way_from way (ToKey wanted))) _ (refl, refl, (omega arith, omega arith), refl, refl)
       (λ h run r. (r.0, (record { mode = r.1.0.mode; small = r.1.0.small; number = r.1.0.number; limit = tt; spent = r.1.0.spent }, ((walk_begins way (ToKey wanted) c h r.1.1.0.0.run r.1.1.0.0.may r.1.1.0.0.small r.1.1.0.0.since, (refl, to_leaf), none_tried Root _ _ r.1.1.0.2), r.1.1.1))))
       (dict_starts valid_key key valid_value value_word p x first (ap is_in_trie is_way ∙ by_leaf trie) tt (refl, refl, (refl, to_leaf), small) tt refl)
     where

@@ -206,7 +206,7 @@ module _ {M E : Type 0} {o : Calls M} {e : EditMeaning E} (u : Updater o e) wher
         goes_below =
             let is = place_tries (passing kept below) (e.guard m.edit) below below.at in
             let z = moves u m (Guard (way_from way goal) head x.last) (walk_place (e.guard m.edit) below below.at) is.0 is.1 in
-            record { edit = z.edit; called = z.called; limit = z.limit; tries = z.tries; spends = z.spends }
+            record { edit = z.edit; called = z.called; limit = z.limit; tries = z.tries; spends = z.spends; end = z.end }
 
         module _ (h : History) (run : IsRun o.allows u.call.layout h) (ready : UpdateIsReady e (guarding x.last) u.call h (Some x.told)) where
           abbrev looks : Call

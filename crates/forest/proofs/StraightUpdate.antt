@@ -59,11 +59,11 @@ module _ {M E : Type 0} {o : Calls M} {e : EditMeaning E} (u : Updater o e) wher
 
   -- what it has continued with does not depend on the place of the update
   gone_anywhere : {A B : Type 0} (old : UpdateRun E UpdateAt) (m : UpdateRun E A) (at : B) (left : ℕ) → HasUpdateGoneOn e old m left left → HasUpdateGoneOn e old (standing m at) left left
-  gone_anywhere old m at left x = record { edit = x.edit; called = x.called; limit = x.limit; tries = x.tries; spends = x.spends }
+  gone_anywhere old m at left x = record { edit = x.edit; called = x.called; limit = x.limit; tries = x.tries; spends = x.spends; end = x.end }
 
   -- an update goes from a place to another where its tries may still take as much
   pub moves : {A : Type 0} (m : UpdateRun E A) (at next : UpdateAt) → node_tries (standing m next) next ≡ node_tries (standing m at) at → scx_tries (standing m next) next ≡ scx_tries (standing m at) at → HasUpdateGoneOn e (standing m at) (standing m next) (node_tries (standing m next) next) (scx_tries (standing m next) next)
-  moves m at next nodes scx = rw (nodes, scx) record { edit = refl; called = refl; limit = refl; tries = (omega arith, omega arith); spends = (omega arith, omega arith, omega arith) }
+  moves m at next nodes scx = rw (nodes, scx) record { edit = refl; called = refl; limit = refl; tries = (omega arith, omega arith); spends = (omega arith, omega arith, omega arith); end = refl }
 
   -- what comes next changes its place alone
   placed_tries : {A : Type 0} (m : UpdateRun E A) (f : Found) (next : Next) → (placed e m f next).tries ≡ m.tries
@@ -80,7 +80,7 @@ module _ {M E : Type 0} {o : Calls M} {e : EditMeaning E} (u : Updater o e) wher
   -- what its try does next, once it has found this and no more of the share is taken than may
   module _ (ps : List SeatedPass) {A : Type 0} (m : UpdateRun E A) (f : Found) where
     gone_to : (old : UpdateRun E UpdateAt) (next : Next) → IsSameUpdate old m → m.tries ≡ old.tries → HasSpentForNext e old.share m f (Ok next) (node_tries old old.at) (scx_tries old old.at) → HasUpdateGoneOn e old (placed e m f next) (node_tries (placed e m f next) (placed e m f next).at) (scx_tries (placed e m f next) (placed e m f next).at)
-    gone_to old next same tries spent = record { edit = p.0 ∙ same.0; called = p.1 ∙ same.1; limit = p.2 ∙ same.2; tries = keeps_tries old.tries (placed e m f next).tries (placed_tries m f next ∙ tries); spends = spent }
+    gone_to old next same tries spent = record { edit = p.0 ∙ same.0; called = p.1 ∙ same.1; limit = p.2 ∙ same.2; tries = keeps_tries old.tries (placed e m f next).tries (placed_tries m f next ∙ tries); spends = spent; end = p.3 ∙ same.3 }
       where
         p : IsSameUpdate m (placed e m f next)
         p = placed_same e m f next
@@ -90,13 +90,13 @@ module _ {M E : Type 0} {o : Calls M} {e : EditMeaning E} (u : Updater o e) wher
     goes_behind old v (Ok next) is tries spent x z =
         let gone = gone_to old next is tries spent in
         record { planting = x.planting; known = x.known; is = x.is; sound = x.sound; so = (u.turns old (placed e m f next) _ (Some v) (next_step e m f next) gone x.so.0 z, goes_on (u.with_run old) (u.stays old (placed e m f next) gone) x.so.1) }
-    goes_behind old v (Err stop) is tries spent x z = record { planting = x.planting; known = x.known; is = x.is; sound = x.sound; so = record { old = old; got = Some v; was = x.so.0; goes = record { edit = is.0; called = is.1; limit = is.2; tries = keeps_tries old.tries m.tries tries; spends = spent }; tries = tries; may = z; course = x.so.1 } }
+    goes_behind old v (Err stop) is tries spent x z = record { planting = x.planting; known = x.known; is = x.is; sound = x.sound; so = record { old = old; got = Some v; was = x.so.0; goes = record { edit = is.0; called = is.1; limit = is.2; tries = keeps_tries old.tries m.tries tries; spends = spent; end = is.3 }; tries = tries; may = z; course = x.so.1 } }
 
     fewer_then : {old mid now : ℕ} → mid ≡ old → (mid ≤ now + 1) × (now ≤ mid) → (old ≤ now + 1) × (now ≤ old)
     fewer_then {old} {mid} {now} e x = subst (λ (k : ℕ). (k ≤ now + 1) × (now ≤ k)) e x
 
     gone_behind : (old now : UpdateRun E UpdateAt) (nodes scx : ℕ) → IsSameUpdate m now → (m.tries ≤ now.tries + 1) × (now.tries ≤ m.tries) → Spends (e.most_nodes now.edit) m.share now.share m.tries nodes m.tries scx → m.tries ≡ old.tries → HasUpdateGoneOn e old m m.tries m.tries → HasUpdateGoneOn e old now nodes scx
-    gone_behind old now nodes scx is fewer spent tries x = record { edit = is.0 ∙ x.edit; called = is.1 ∙ x.called; limit = is.2 ∙ x.limit; tries = fewer_then tries fewer; spends = joined_spends (e.most_nodes now.edit) old.share m.share now.share (node_tries old old.at) nodes (scx_tries old old.at) scx m.tries (subst (λ ed. Spends (e.most_nodes ed) old.share m.share (node_tries old old.at) m.tries (scx_tries old old.at) m.tries) (sym is.0) x.spends) spent }
+    gone_behind old now nodes scx is fewer spent tries x = record { edit = is.0 ∙ x.edit; called = is.1 ∙ x.called; limit = is.2 ∙ x.limit; tries = fewer_then tries fewer; spends = joined_spends (e.most_nodes now.edit) old.share m.share now.share (node_tries old old.at) nodes (scx_tries old old.at) scx m.tries (subst (λ ed. Spends (e.most_nodes ed) old.share m.share (node_tries old old.at) m.tries (scx_tries old old.at) m.tries) (sym is.0) x.spends) spent; end = is.3 ∙ x.end }
 
     -- if its try ends so, it is as the turn says that it makes of that
     pub stops : (now : UpdateRun E UpdateAt) (stop : Stop) (turn : Turn Updated) → IsSameUpdate m now → (m.tries ≤ now.tries + 1) × (now.tries ≤ m.tries) → IsSpending e turn m.share now m.tries m.tries → ((h : History) → IsRun TreeAllows u.call.layout h → MayStop e u.call h m f stop → UpdateTurn e u.call h now turn) → UpdaterStops u ps m f stop → HostedStands u ps now turn
@@ -209,8 +209,8 @@ module _ {M E : Type 0} {o : Calls M} {e : EditMeaning E} (u : Updater o e) wher
 
   -- given what its step has found, it has continued as its turn says
   pub goes_told : (ps : List SeatedPass) (m now : UpdateRun E UpdateAt) (v : ℕ) (turn : Turn Updated) → IsSameUpdate m now → (m.tries ≤ now.tries + 1) × (now.tries ≤ m.tries) → (MaySpend e m m.at → IsSpending e turn m.share now (node_tries m m.at) (scx_tries m m.at)) → HostedIsTold u ps m v → MatchTurn turn (λ _. (inner_update e).goes m now) (λ _. (inner_update e).ends m now)
-  goes_told ps m now v (Ask s) is fewer spent x = record { edit = is.0; called = is.1; limit = is.2; tries = fewer; spends = spent (may_spend ps m v x) }
-  goes_told ps m now v (Done a) is fewer spent x = record { edit = is.0; called = is.1; limit = is.2; tries = fewer; spends = spent (may_spend ps m v x) }
+  goes_told ps m now v (Ask s) is fewer spent x = record { edit = is.0; called = is.1; limit = is.2; tries = fewer; spends = spent (may_spend ps m v x); end = is.3 }
+  goes_told ps m now v (Done a) is fewer spent x = record { edit = is.0; called = is.1; limit = is.2; tries = fewer; spends = spent (may_spend ps m v x); end = is.3 }
 
   -- what it gets fits the taken nodes
   pub told_fits : (ps : List SeatedPass) (m : UpdateRun E UpdateAt) (v : ℕ) → HostedIsTold u ps m v → UpdateFits e m (Some v) (shared_nodes o.layout)
@@ -243,7 +243,7 @@ module _ {M E : Type 0} {o : Calls M} {e : EditMeaning E} (u : Updater o e) wher
 
   -- after the load of a word it waits for the load of the next
   reads_to : (ps : List SeatedPass) {A : Type 0} (m : UpdateRun E A) (f : Found) (n : NodeNo) (part next : SettledPart) (v : ℕ) → next_read (read_with m.read part v) ≡ Some next → HostedIsTold u ps (placed e m f (ReadNext n part)) v → UpdaterTries u ps (told m part v) f (ReadNext n next)
-  reads_to ps m f n part next v is x = reads_on ps m (told m part v) f n part v (Ok (ReadNext n next)) (refl, refl, refl) refl (told_spends e m f n part next v) (λ b h run try reads there. told_turn e m u.call b h f n part next v try reads there is) x
+  reads_to ps m f n part next v is x = reads_on ps m (told m part v) f n part v (Ok (ReadNext n next)) (refl, refl, refl, refl) refl (told_spends e m f n part next v) (λ b h run try reads there. told_turn e m u.call b h f n part next v try reads there is) x
 
   -- after that of a pair's key for its value, and then for the high half
   pub waits_value : (ps : List SeatedPass) {A : Type 0} (m : UpdateRun E A) (f : Found) (n : NodeNo) (slot : Slot) (v : ℕ) → is_at_pair m.read ≡ true → next_read m.read ≡ Some (Key slot) → HostedIsTold u ps (placed e m f (ReadNext n (Key slot))) v → UpdaterTries u ps (told m (Key slot) v) f (ReadNext n (Value slot))
@@ -328,7 +328,7 @@ module _ {M E : Type 0} {o : Calls M} {e : EditMeaning E} (u : Updater o e) wher
     known = x.known;
     is = x.is;
     sound = x.sound;
-    so = record { old = here; got = Some v; was = x.so.0; goes = record { edit = refl; called = refl; limit = refl; tries = (omega arith, omega arith); spends = (omega arith, omega arith, omega arith) }; answers = answers; course = x.so.1 };
+    so = record { old = here; got = Some v; was = x.so.0; goes = record { edit = refl; called = refl; limit = refl; tries = (omega arith, omega arith); spends = (omega arith, omega arith, omega arith); end = refl }; answers = answers; course = x.so.1 };
   }
     where
       scx : ScxRun

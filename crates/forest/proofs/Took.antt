@@ -6,7 +6,8 @@ use Rattle.histories.specs.Common.{Layout, IsInProgress, IsOwnScx, IsTakenScx, H
 use Rattle.arena.proofs.Lemmas.{ends_self, ends_trans}
 use Rattle.histories.proofs.Lemmas.{lawful_row, lawful_since, lawful_tail, named_scx_taken, state_since, untaken_by_others}
 use Rattle.prims.specs.Laws.Begun.{taken_since}
-use Rattle.prims.proofs.Lemmas.{wins_in_progress}
+use Rattle.prims.specs.Shares.{share_end}
+use Rattle.prims.proofs.Lemmas.{one_end, wins_in_progress}
 use Rattle.ordered_map.specs.OrderedMap.{MapEdit}
 use Rattle.edits.specs.Known.{HasMade, RestsWith}
 use Rattle.dict.specs.Says.{HasMadeRow}
@@ -57,11 +58,9 @@ module _ {edit : MapEdit} {number : ℕ} {old : Option ℕ} (c : Call) (h : Hist
     pub took_below : (left : Remaining) → RestsWith c h left → m.scx < left.next_scx
     took_below left y =
         let inside : Extends h m.before = ends_trans h (m.row ⊳ m.before) m.before m.within (inr (ends_self m.before)) in
-        let not : ¬ (left.next_scx ≤ m.scx) = λ i. y.share.untaken m.scx
-        record { from = i; below = let e = y.share.to_scx in let f = m.own.below in omega (arith, e, f) }
-        (taken_since h m.before m.scx inside taken) in
+        let not : ¬ (left.next_scx ≤ m.scx) = λ i. y.share.untaken m.scx m.own i (taken_since h m.before m.scx inside taken) in
         omega (arith, not)
 
     -- so there are fewer
-    pub took_some : (left : Remaining) → RestsWith c h left → left.scx < first.scx
-    took_some left y = let a = took_from in let b = took_below left y in let e = x.share.to_scx in let f = y.share.to_scx in omega (arith, a, b, e, f)
+    pub took_some : (left : Remaining) → share_end left ≡ share_end first → RestsWith c h left → left.scx < first.scx
+    took_some left end y = let a = took_from in let b = took_below left y in let e = (one_end left first end).1 in omega (arith, a, b, e)

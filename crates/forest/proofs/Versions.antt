@@ -7,6 +7,7 @@ use Rattle.template.specs.Common.{MapCall, MapReply, MapEdit, edit_of, IsMapRun,
 use Rattle.ordered_map.proofs.Lemmas.{makes_since}
 use Rattle.edits.specs.Known.{RestsWith, IsUntouched}
 use Rattle.edits.specs.Tries.{HasEnteredNone}
+use Rattle.prims.specs.Shares.{share_end}
 use Rattle.dict.specs.Laws.OneShare.{one_share}
 use Rattle.dict.specs.Says.{HasMadeEdit, HasToldBy, HasTold, HasLost, HasRunOut}
 use Rattle.forest.specs.Dictionary.{IsChange, IsChangeOrReading, IsContendedCall, IsFullCall}
@@ -23,7 +24,7 @@ module _ (was : PassView) (is_pass : was.number < was.layout.passes) (number : �
   abbrev pub then : PassView
   then = record { table = table; layout = was.layout; planting = planting; number = was.number; share = left; known = known; blamed = blamed }
 
-  module _ (run : IsMapRun was.layout (run_of then)) (since : Extends (run_of then) (run_of was)) where
+  module _ (run : IsMapRun was.layout (run_of then)) (since : Extends (run_of then) (run_of was)) (end : share_end left ≡ share_end was.share) where
     none_more : HasEnteredNone was.layout was.number (run_of then) (run_of was) → done_of then ≡ done_of was
     none_more none = none_entered was.layout was.number (run_of then) (run_of was) run.1.lawful since none
 
@@ -47,7 +48,7 @@ module _ (was : PassView) (is_pass : was.number < was.layout.passes) (number : �
           makes = subst (λ (u : ℕ). Makes was.layout (run_of then) u edit) (sym y.of_scx) (makes_since was.layout (run_of then) before y.scx edit within y.edits.makes);
           was_left = rw y.of_scx (took_from call_by (run_of then) run.1.lawful y was.share first);
           is_taken = rw y.of_scx (took_below call_by (run_of then) run.1.lawful y was.share first left rests);
-          took = took_some call_by (run_of then) run.1.lawful y was.share first left rests;
+          took = took_some call_by (run_of then) run.1.lawful y was.share first left end rests;
           map = x.map;
           was = x.spelled;
           gives = x.gives;
@@ -71,7 +72,7 @@ module _ (was : PassView) (is_pass : was.number < was.layout.passes) (number : �
     full_says call full rests y = record { short = y.short; first = untouched y.first; done = none_more y.none }
       where
         untouched : IsUntouched call_by (run_of then) left → (left ≡ was.share) ⊎ ((n : ℕ) × (s : ℕ) × IsOthersScx was.layout was.number s × WasInTheWay (run_of then) (run_of was) n s)
-        untouched (inl z) = inl (one_share call_by (run_of was) left was.share z rests)
+        untouched (inl z) = inl (one_share call_by (run_of was) left was.share end z rests)
         untouched (inr z) = inr (z.0, z.1, z.2.others, z.2.in_the_way)
 
     pub nothing_says : HasEnteredNone was.layout was.number (run_of then) (run_of was) → done_of then ≡ done_of was

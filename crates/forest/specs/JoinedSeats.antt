@@ -9,7 +9,7 @@ use Rattle.forest.specs.Passes.{PassView, HoldsOfOwn, IsLook, HasBlamed, run_of,
 
 -- the pass p, one look at the table later: it has no entry more, and is between two calls
 pub record IsFrom (allows : Layout → History → ℕ → Type 0) (p : PassView) (k : SeatedPass) : Type 0 where
-  pub is : k ≡ seated_pass p.number p.layout p.planting k.rested k.known
+  pub is : k ≡ seated_pass p.number p.layout p.planting k.memory k.known
   pub is_pass : p.number < p.layout.passes
   pub sound : IsRun allows p.layout (history_of p.planting k.known)
   pub rest : IsBetweenCalls p.layout p.number (history_of p.planting k.known) p.share

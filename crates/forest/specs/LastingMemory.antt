@@ -11,12 +11,12 @@ use Rattle.slots.specs.Held.{Held, IsHeld}
 use Rattle.slots.specs.Lasting.{IsOwnName, IsOwnRecord, IsUntaken, Lasting}
 use Rattle.forest.specs.Passes.{Each}
 use Rattle.forest.specs.TableRule.{history_of}
-use Rattle.forest.specs.declared.lasting_view.PassMemory.{PassMemory}
-use Rattle.forest.specs.declared.lasting_view.NoteView.{NoteView}
-use Rattle.forest.specs.declared.lasting_view.NoteView.TheVariants.{MarkedOrDead, DeadBy, OutOfReach, DoneWith}
-use Rattle.forest.specs.declared.lasting_view.Polled.{Polled}
-use Rattle.forest.specs.declared.lasting_view.RecordNo.{RecordNo}
-use Rattle.forest.specs.declared.lasting_view.RecordNo.TheVariants.{Node, Scx}
+use Rattle.forest.specs.declared.memory.PassMemory.{PassMemory}
+use Rattle.forest.specs.declared.memory.NoteView.{NoteView}
+use Rattle.forest.specs.declared.memory.NoteView.TheVariants.{MarkedOrDead, DeadBy, OutOfReach, DoneWith}
+use Rattle.forest.specs.declared.memory.Polled.{Polled}
+use Rattle.forest.specs.declared.memory.RecordNo.{RecordNo}
+use Rattle.forest.specs.declared.memory.RecordNo.TheVariants.{Node, Scx}
 use Rattle.forest.specs.declared.view.SeatedPass.{SeatedPass}
 
 -- the record of this number
@@ -103,17 +103,14 @@ pub record RemembersNames (t : Lasting) (planting : PlantingView) (now : Present
   pub empty : Each (IsEmptySlot t o now) m.empty
   pub zeros : Each (IsZeroWord t o now) m.zeros
 
--- what the pass remembers is so, if it has rested last after these rows
-pub record RemembersWell (t : Lasting) (planting : PlantingView) (now : Present) (o : ℕ) (rows : List Row) (m : PassMemory) : Type 0 where
+-- what the pass remembers is so
+pub record RemembersWell (t : Lasting) (planting : PlantingView) (now : Present) (o : ℕ) (m : PassMemory) : Type 0 where
   pub away : m.away ≡ now.tally.away o
   pub often : m.often ≡ now.tally.count o
-  -- it has, while it is there
-  pub rested : m.away ≡ false → now.last o ≡ history_of planting rows
+  -- it has rested last after those rows, while it is there
+  pub rested : m.away ≡ false → now.last o ≡ history_of planting m.rested
   pub names : RemembersNames t planting now o m
 
--- so it is with each of these passes, by what it remembers, in the same order
-abbrev pub RememberWell : Lasting → PlantingView → Present → List SeatedPass → List PassMemory → Type 0
-RememberWell t planting now [] [] = Unit {0}
-RememberWell t planting now [] (m ∷ ms) = ⊥
-RememberWell t planting now (p ∷ ps) [] = ⊥
-RememberWell t planting now (p ∷ ps) (m ∷ ms) = RemembersWell t planting now p.number.0 p.rested m × RememberWell t planting now ps ms
+-- so it is with each of these passes
+abbrev pub RememberWell : Lasting → PlantingView → Present → List SeatedPass → Type 0
+RememberWell t planting now ps = Each (λ p. RemembersWell t planting now p.number.0 p.memory) ps

@@ -13,9 +13,9 @@ use Rattle.forest.specs.TableRule.{history_of, past_of}
 use Rattle.forest.specs.LastingMemory.{record_at}
 use Rattle.forest.specs.LastingNotes.{IsIn}
 use Rattle.forest.specs.LastingSlots.{without}
-use Rattle.forest.specs.declared.lasting_view.PassMemory.{PassMemory}
-use Rattle.forest.specs.declared.lasting_view.RecordNo.{RecordNo}
-use Rattle.forest.specs.declared.lasting_view.RecordNo.TheVariants.{Node, Scx}
+use Rattle.forest.specs.declared.memory.PassMemory.{PassMemory}
+use Rattle.forest.specs.declared.memory.RecordNo.{RecordNo}
+use Rattle.forest.specs.declared.memory.RecordNo.TheVariants.{Node, Scx}
 use Rattle.forest.specs.declared.view.SeatedPass.{SeatedPass}
 
 -- these rows, and after them those by which the pass o passes over so many nodes from that one on
@@ -48,9 +48,11 @@ node_ahead m count = Node record { 0 = m.nodes_to + count }
 abbrev pub scx_ahead : PassMemory → ℕ → RecordNo
 scx_ahead m count = Scx record { 0 = m.scx_to + count }
 
--- what is remembered once the slot holds the name, and names up to these two are dealt
-abbrev pub memory_with : PassMemory → (name slot : RecordNo) → (nodes_to scx_to : ℕ) → PassMemory
-memory_with m name slot nodes_to scx_to = record m {
+-- what is remembered once the slot holds the name, and names up to these two are dealt, by a pass
+-- that rests then, after these rows
+abbrev pub memory_with : PassMemory → (name slot : RecordNo) → (nodes_to scx_to : ℕ) → List Row → PassMemory
+memory_with m name slot nodes_to scx_to rows = record m {
+  rested = rows;
   nodes_to = nodes_to;
   scx_to = scx_to;
   holds = name ∷ m.holds;
@@ -59,20 +61,20 @@ memory_with m name slot nodes_to scx_to = record m {
 }
 
 -- so it is once so many names of nodes are passed over, and the next is held; and of SCX-records
-abbrev pub memory_with_node : PassMemory → (count : ℕ) → RecordNo → PassMemory
+abbrev pub memory_with_node : PassMemory → (count : ℕ) → RecordNo → List Row → PassMemory
 memory_with_node m count slot = memory_with m (node_ahead m count) slot (m.nodes_to + suc count) m.scx_to
 
-abbrev pub memory_with_scx : PassMemory → (count : ℕ) → RecordNo → PassMemory
+abbrev pub memory_with_scx : PassMemory → (count : ℕ) → RecordNo → List Row → PassMemory
 memory_with_scx m count slot = memory_with m (scx_ahead m count) slot m.nodes_to (m.scx_to + suc count)
 
 -- A pass that is there and between two calls, which has so much left of its share, may give the
 -- slot the name: it is its own, and this its slot, which holds nothing, and whose words are all 0.
-pub record MayTake (t : Lasting) (p : SeatedPass) (m : PassMemory) (left : Remaining) (name slot : RecordNo) : Type 0 where
+pub record MayTake (t : Lasting) (p : SeatedPass) (left : Remaining) (name slot : RecordNo) : Type 0 where
   pub is_pass : p.number.0 < t.lay.passes
-  pub there : m.away ≡ false
+  pub there : p.memory.away ≡ false
   pub share : IsShare p.layout (past_of p []) p.number.0 left left.next_node left.next_scx
   pub over : AreFinished p.layout p.number.0 0 (past_of p [])
   pub own : IsOwnName t p.number.0 (record_at name)
   pub slot_is : slot_of t (record_at name) ≡ record_at slot
-  pub empty : IsIn slot m.empty
-  pub zeros : (w : Word) → IsWord t.table w → record_of w ≡ record_at slot → IsIn w m.zeros
+  pub empty : IsIn slot p.memory.empty
+  pub zeros : (w : Word) → IsWord t.table w → record_of w ≡ record_at slot → IsIn w p.memory.zeros

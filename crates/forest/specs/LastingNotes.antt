@@ -6,22 +6,22 @@ use Rattle.planting.specs.Plantings.{PlantingView}
 use Rattle.resting.specs.Dead.{IsUnborn, IsUnnamedScx}
 use Rattle.resting.specs.Records.{Record, the_node, the_scx}
 use Rattle.forest.specs.TableRule.{history_of}
-use Rattle.forest.specs.declared.lasting_view.PassMemory.{PassMemory}
-use Rattle.forest.specs.declared.lasting_view.Noted.{Noted}
-use Rattle.forest.specs.declared.lasting_view.NoteView.{NoteView}
-use Rattle.forest.specs.declared.lasting_view.NoteView.TheVariants.{MarkedOrDead, DeadBy, OutOfReach, DoneWith}
-use Rattle.forest.specs.declared.lasting_view.Polled.{Polled}
-use Rattle.forest.specs.declared.lasting_view.RecordNo.{RecordNo}
-use Rattle.forest.specs.declared.lasting_view.RecordNo.TheVariants.{Scx, Node}
+use Rattle.forest.specs.declared.memory.PassMemory.{PassMemory}
+use Rattle.forest.specs.declared.memory.Noted.{Noted}
+use Rattle.forest.specs.declared.memory.NoteView.{NoteView}
+use Rattle.forest.specs.declared.memory.NoteView.TheVariants.{MarkedOrDead, DeadBy, OutOfReach, DoneWith}
+use Rattle.forest.specs.declared.memory.Polled.{Polled}
+use Rattle.forest.specs.declared.memory.RecordNo.{RecordNo}
+use Rattle.forest.specs.declared.memory.RecordNo.TheVariants.{Scx, Node}
 use Rattle.forest.specs.declared.view.SeatedPass.{SeatedPass}
 
 -- a note of a name
 abbrev pub noted_as : RecordNo → NoteView → Noted
 noted_as name note = record { name = name; note = note }
 
--- what is remembered of a rest
-abbrev pub memory_rested : PassMemory → PassMemory
-memory_rested m = record m { away = false; often = suc m.often }
+-- what is remembered of a rest after these rows
+abbrev pub memory_rested : PassMemory → List Row → PassMemory
+memory_rested m rows = record m { rested = rows; away = false; often = suc m.often }
 
 -- what is remembered while the pass is away
 abbrev pub memory_away : PassMemory → PassMemory
@@ -51,10 +51,10 @@ rested_poll q rows = record { pass = record { 0 = q }; since = rows; waits = Non
 
 -- The pass is there, and has rested since these rows, and it has polled that so has each other,
 -- each since a moment of its own.
-pub record HasRestedSince (lay : Layout) (p : SeatedPass) (m : PassMemory) (rows : List Row) : Type 0 where
-  pub there : m.away ≡ false
-  pub own : Extends (history_of p.planting p.rested) (history_of p.planting rows)
-  pub others : (q : ℕ) → q < lay.passes → q ≢ p.number.0 → (since : List Row) × IsIn (rested_poll q since) m.polls × Extends (history_of p.planting since) (history_of p.planting rows)
+pub record HasRestedSince (lay : Layout) (p : SeatedPass) (rows : List Row) : Type 0 where
+  pub there : p.memory.away ≡ false
+  pub own : Extends (history_of p.planting p.memory.rested) (history_of p.planting rows)
+  pub others : (q : ℕ) → q < lay.passes → q ≢ p.number.0 → (since : List Row) × IsIn (rested_poll q since) p.memory.polls × Extends (history_of p.planting since) (history_of p.planting rows)
 
 -- the note is of that moment, or of one before
 abbrev pub IsBefore : PlantingView → History → NoteView → Type 0

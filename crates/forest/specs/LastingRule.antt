@@ -9,13 +9,13 @@ use Rattle.planting.specs.Plantings.{PlantingView}
 use Rattle.resting.specs.Records.{record_of}
 use Rattle.slots.specs.Counts.{CountsRests, Tally}
 use Rattle.slots.specs.Held.{Held}
-use Rattle.slots.specs.Lasting.{IsOwnRecord, IsUntaken, Lasting}
+use Rattle.slots.specs.Lasting.{Lasting}
 use Rattle.slots.specs.Window.{IsWindow}
 use Rattle.forest.specs.CallSteps.{IsOfMapCall}
 use Rattle.forest.specs.TableRule.{ByOthers, MayStep, Owns, history_of, past_of, seated_pass}
 use Rattle.forest.specs.LastingMemory.{AreHeldOrGone, IsDealt, RememberWell, present}
-use Rattle.forest.specs.declared.lasting_view.LastingView.{LastingView}
-use Rattle.forest.specs.declared.lasting_view.PassMemory.{PassMemory}
+use Rattle.forest.specs.declared.view.SeatView.{SeatView}
+use Rattle.forest.specs.declared.memory.PassMemory.{PassMemory}
 use Rattle.forest.specs.declared.rule.CallStep.{CallStep}
 use Rattle.forest.specs.declared.rule.Plot.{Plot}
 use Rattle.forest.specs.declared.view.SeatedPass.{SeatedPass}
@@ -27,7 +27,7 @@ plot_in t planting = record { layout = t.lay; planting = planting }
 -- The words are a window on some lawful run, and count the rests of all passes; each pass knows a
 -- beginning of the run, after which are rows of others alone; each node that was taken is held, or
 -- gone; and what passes remember is so.
-pub record TableLasts (allows : Layout → History → ℕ → Type 0) (t : Lasting) (planting : PlantingView) (s : State ℕ LastingView) : Type 0 where
+pub record TableLasts (allows : Layout → History → ℕ → Type 0) (t : Lasting) (planting : PlantingView) (s : State ℕ SeatView) : Type 0 where
   pub rows : List Row
   pub last : ℕ → History
   pub held : Held
@@ -37,63 +37,50 @@ pub record TableLasts (allows : Layout → History → ℕ → Type 0) (t : Last
   pub counts : CountsRests t s.words (history_of planting rows) tally
   pub gone : AreHeldOrGone t (present s.words (history_of planting rows) last held tally)
   pub owner : ℕ → ℕ
-  pub passes : (id : ℕ) (v : LastingView) → get_elem? s.views id ≡ some v → Owns (plot_in t planting) rows owner id v.passes
-  pub memories : (id : ℕ) (v : LastingView) → get_elem? s.views id ≡ some v → RememberWell t planting (present s.words (history_of planting rows) last held tally) v.passes v.memories
-
--- What the step comes to of the pass's own that nobody has taken, it fills, whatever rows of others
--- come before.
-abbrev pub FillsFresh : (Layout → History → ℕ → Type 0) → CallStep → SeatedPass → Type 0
-FillsFresh allows said p = (others : List Row) → ByOthers p.number.0 others → IsRun allows p.layout (past_of p others) → IsUntaken p.layout (past_of p others) (record_of said.step.word) → IsOwnRecord p.layout p.number.0 (record_of said.step.word) → said.step.kind ≡ Fill
+  pub passes : (id : ℕ) (v : SeatView) → get_elem? s.views id ≡ some v → Owns (plot_in t planting) rows owner id v.passes
+  pub memories : (id : ℕ) (v : SeatView) → get_elem? s.views id ≡ some v → RememberWell t planting (present s.words (history_of planting rows) last held tally) v.passes
 
 -- what the step fills is dealt
 abbrev pub FillsDealt : CallStep → PassMemory → Type 0
 FillsDealt said m = said.step.kind ≡ Fill → IsDealt m (record_of said.step.word)
 
--- A pass that remembers so much may make the step: it is there, and the step is lawful, and one of
--- a map's call that began since its last rest; and of names that nobody has taken it comes only to
--- dealt ones, to fill them.
-pub record MayStepOn (allows : Layout → History → ℕ → Type 0) (said : CallStep) (p : SeatedPass) (m : PassMemory) : Type 0 where
+-- The pass may make the step: it is there, and the step is lawful, and one of a map's call that
+-- began since its last rest; and what it fills is dealt. So of names that nobody has taken it comes
+-- only to dealt ones: a call comes to such a name only to fill it.
+pub record MayStepOn (allows : Layout → History → ℕ → Type 0) (said : CallStep) (p : SeatedPass) : Type 0 where
   pub may : MayStep allows said p
   pub of_call : IsOfMapCall allows said p
-  pub there : m.away ≡ false
-  pub fresh : FillsFresh allows said p
-  pub dealt : FillsDealt said m
+  pub there : p.memory.away ≡ false
+  pub dealt : FillsDealt said p.memory
 
--- The only pass of a seat has come to know the whole run, with which others have gone on. By then
--- it has rested last after the rows that `rested` makes of those after which it had before.
-pub record HasLearnt (allows : Layout → History → ℕ → Type 0) (rested : List Row → List Row) (ps : List SeatedPass) (rows : List Row) (qs : List SeatedPass) : Type 0 where
+-- The only pass of a seat has come to know the whole run, with which others have gone on, and
+-- remembers by then what `after` makes of the run.
+pub record HasLearnt (allows : Layout → History → ℕ → Type 0) (after : List Row → PassMemory) (ps : List SeatedPass) (rows : List Row) (qs : List SeatedPass) : Type 0 where
   pub pass : SeatedPass
   pub others : List Row
   pub was : ps ≡ pass ∷ []
   pub by_others : ByOthers pass.number.0 others
   pub rows_are : rows ≡ others ++ pass.known
   pub run : IsRun allows pass.layout (past_of pass others)
-  pub is : qs ≡ seated_pass pass.number.0 pass.layout pass.planting (rested pass.rested) rows ∷ []
+  pub is : qs ≡ seated_pass pass.number.0 pass.layout pass.planting (after rows) rows ∷ []
 
--- So has the pass of a seat that remembers m; and it remembers by then what `after` makes of the
--- run.
-abbrev pub LearnsWith : (Layout → History → ℕ → Type 0) → (List Row → PassMemory) → LastingView → LastingView → Type 0
-LearnsWith allows after v w = (rows : List Row) × HasLearnt allows (λ old. old) v.passes rows w.passes × (w.memories ≡ after rows ∷ [])
+-- so it is of these two views of a seat
+abbrev pub LearnsWith : (Layout → History → ℕ → Type 0) → (List Row → PassMemory) → SeatView → SeatView → Type 0
+LearnsWith allows after v w = (rows : List Row) × HasLearnt allows after v.passes rows w.passes
 
--- so has one that rests now, and remembers so much by then
-abbrev pub LearnsAtRest : (Layout → History → ℕ → Type 0) → PassMemory → LastingView → LastingView → Type 0
-LearnsAtRest allows after v w = (rows : List Row) × HasLearnt allows (λ old. rows) v.passes rows w.passes × (w.memories ≡ after ∷ [])
-
--- The only pass of a seat has come to know the run, and remembers what it did; and in that run the
--- word was n.
-pub record LoadsWord (allows : Layout → History → ℕ → Type 0) (m : PassMemory) (u : Word) (n : ℕ) (v w : LastingView) : Type 0 where
+-- The pass p, the only one of a seat, has come to know the run, and remembers what it did; and in
+-- that run the word was n.
+pub record LoadsWord (allows : Layout → History → ℕ → Type 0) (p : SeatedPass) (u : Word) (n : ℕ) (v w : SeatView) : Type 0 where
   pub rows : List Row
-  pub learnt : HasLearnt allows (λ old. old) v.passes rows w.passes
-  pub memory : w.memories ≡ m ∷ []
-  pub value : (p : SeatedPass) → v.passes ≡ p ∷ [] → value (history_of p.planting rows) u ≡ n
+  pub learnt : HasLearnt allows (λ known. p.memory) v.passes rows w.passes
+  pub value : value (history_of p.planting rows) u ≡ n
 
--- The only pass of a seat has come to know the run, has gone on by rows of its own, and rests now;
--- and by then it remembers so much.
-pub record GoesOnWith (allows : Layout → History → ℕ → Type 0) (on : PlantingView → List Row → List Row) (after : PassMemory) (v w : LastingView) : Type 0 where
+-- The only pass of a seat has come to know the run, and has gone on by rows of its own; and it
+-- remembers by then what `after` makes of them all.
+pub record GoesOnWith (allows : Layout → History → ℕ → Type 0) (on : PlantingView → List Row → List Row) (after : List Row → PassMemory) (v w : SeatView) : Type 0 where
   pub pass : SeatedPass
   pub others : List Row
   pub was : v.passes ≡ pass ∷ []
   pub by_others : ByOthers pass.number.0 others
   pub run : IsRun allows pass.layout (history_of pass.planting (on pass.planting (others ++ pass.known)))
-  pub passes : w.passes ≡ (let rows : List Row = on pass.planting (others ++ pass.known) in seated_pass pass.number.0 pass.layout pass.planting rows rows) ∷ []
-  pub memories : w.memories ≡ after ∷ []
+  pub passes : w.passes ≡ (let rows : List Row = on pass.planting (others ++ pass.known) in seated_pass pass.number.0 pass.layout pass.planting (after rows) rows) ∷ []

@@ -1,13 +1,13 @@
 -- How slots of a table that lasts come to hold nothing.
-use Rattle.std.specs.Prelude.{◌≡◌, ◌%◌, if◌then◌else◌, ℕ, suc, List, [], ◌∷◌}
-use Rattle.histories.specs.Common.{Word, History, IsTakenNode, IsTakenScx, Remaining, HasNode, HasScx}
+use Rattle.std.specs.Prelude.{◌≡◌, ◌≤◌, ◌%◌, if◌then◌else◌, ℕ, suc, List, [], ◌∷◌}
+use Rattle.histories.specs.Common.{Word, History, IsTakenNode, IsTakenScx, Remaining}
 use Rattle.resting.specs.Records.{Record, the_node, the_scx}
 use Rattle.slots.specs.Held.{same_record}
 use Rattle.slots.specs.Lasting.{Lasting}
 use Rattle.forest.specs.LastingMemory.{record_at}
-use Rattle.forest.specs.declared.lasting_view.PassMemory.{PassMemory}
-use Rattle.forest.specs.declared.lasting_view.RecordNo.{RecordNo}
-use Rattle.forest.specs.declared.lasting_view.RecordNo.TheVariants.{Node, Scx}
+use Rattle.forest.specs.declared.memory.PassMemory.{PassMemory}
+use Rattle.forest.specs.declared.memory.RecordNo.{RecordNo}
+use Rattle.forest.specs.declared.memory.RecordNo.TheVariants.{Node, Scx}
 
 -- the slot of the name
 abbrev pub slot_number : Lasting → RecordNo → RecordNo
@@ -37,10 +37,10 @@ abbrev pub IsLastDealt : PassMemory → Record → Type 0
 IsLastDealt m (the_node n) = m.nodes_to ≡ suc n
 IsLastDealt m (the_scx s) = m.scx_to ≡ suc s
 
--- the name is left of a share
-abbrev pub IsLeft : Remaining → Record → Type 0
-IsLeft left (the_node n) = HasNode left n
-IsLeft left (the_scx s) = HasScx left s
+-- the name is not before what is left of a share: it is left, or behind what has been dealt
+abbrev pub IsNotBefore : Remaining → Record → Type 0
+IsNotBefore left (the_node n) = left.next_node ≤ n
+IsNotBefore left (the_scx s) = left.next_scx ≤ s
 
 -- what is remembered once this word is 0
 abbrev pub memory_cleared : PassMemory → Word → PassMemory

@@ -36,4 +36,4 @@ pub mod LastingNotes
 pub mod LastingSlots
 pub mod LastingNames
 pub mod LastingRule
-pub mod LastingViews
+pub mod LastingOpening

@@ -3,7 +3,7 @@ use Rattle.template.specs.Balance.{map_mode, nodes_by}
 use Rattle.std.specs.Prelude.{◌≡◌, ◌+◌, ◌-◌, ◌<◌, ◌≤◌, ℕ, Bool, true, false, List, [], ◌∷◌}
 use Rattle.atomic_table.specs.declared.shared.Seat.{Seat}
 use Rattle.histories.specs.Common.{Call, Layout, MatchTurn}
-use Rattle.dict.specs.Calls.{call_in, AsksForPairs}
+use Rattle.dict.specs.Calls.{call_in, share_of, AsksForPairs}
 use Rattle.dict.specs.DictKnown.{DictWaits, DictAnswers}
 use Rattle.ordered_map.specs.CallRules.{most_steps}
 use Rattle.dict.specs.Steps.{map_left}
@@ -18,7 +18,7 @@ use Rattle.forest.specs.Opened.{OpenView}
 use Rattle.forest.specs.Passes.{PassView, run_of, steps_of, taken_of}
 use Rattle.forest.specs.PassInvariant.{IsPass}
 use Rattle.forest.specs.StraightCalls.{IsSameDictCall}
-use Rattle.forest.specs.TableRule.{seated_pass}
+use Rattle.forest.specs.TableRule.{no_memory, seated_pass}
 use Rattle.forest.specs.Traces.{Stands, known_of, planting_of, seat_steps, shared_nodes, weight, KnowsAs}
 
 -- what contracts see of a call that is held open
@@ -41,7 +41,7 @@ pass_as p s = record {
   number = record { 0 = p.number };
   layout = p.layout;
   share = p.share;
-  seat = record s { table_id = p.table; me = (record { passes = seated_pass p.number p.layout p.planting [] p.known ∷ [] }, []) };
+  seat = record s { table_id = p.table; me = (record { passes = seated_pass p.number p.layout p.planting no_memory p.known ∷ [] }, []) };
   blamed = p.blamed;
   shape = record {};
 }
@@ -66,8 +66,9 @@ pub record IsOpen {K V B : Type 0} (valid_key : K → Type 0) (key : K → ℕ) 
   pub table : o.seat.table_id ≡ o.began.value.table
   pub bare : o.seat.me.1 ≡ []
   pub kept : KeepsPass o.began.value o.number.0 o.layout o.call o.blamed
-  -- its machine waits for a step, or has answered
+  -- its machine, which began with the share of the pass, waits for a step, or has answered
   pub first : DictRun K V
+  pub had : share_of first.run ≡ o.began.value.share
   pub stands : Stands (TypedAllows (IsWordOf valid_key key) (IsWordOf valid_value value)) (DictWaits (IsWordOf valid_key key) (IsWordOf valid_value value)) (IsSameDictCall valid_key key valid_value value) (next_call o.began.value pass.is_pass) o.seat.me.0.passes first (DictAnswers valid_key key valid_value value) o.run o.turn
   -- it has made no more steps than such a call may
   pub since : steps_of o.began.value ≤ seat_steps o.seat.me.0.passes

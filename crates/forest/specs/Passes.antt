@@ -5,6 +5,7 @@ use Rattle.atomic_table.specs.Seated.{TableId}
 use Rattle.histories.specs.Common.{Layout, Row, Freeze, LoadInfo, LoadSettled, Remaining, HasScx, NodeNo, Side, Settled, Head, Word, all_nodes, IsWord, IsRun}
 use Rattle.histories.specs.Common.{Contents, word_at, info, state, child, node as node_word, first_value, History, ◌⊳◌, value, HasHeld, Extends, Records, IsNamedScx}
 use Rattle.histories.specs.Common.{IsOthersScx, IsOwnNode, IsOwnScx, IsTakenNode, IsTakenScx, HasFailed, IsWin, Entry, log, has, fields, Full, Resource, Nodes}
+use Rattle.arena.specs.Layout.{first_scx}
 use Rattle.arena.specs.Share.{whole_share, IsFull}
 use Rattle.template.specs.Common.{AllowsAll, HasFoundThere, IsSnapshot, HasJustLooked, Snap, Llx, Snapshot, Finalized, Fail, IsLeftAlone}
 use Rattle.template.specs.Common.{HasChanged, nodes_of, IsUsable, IsAmong, ListsNode, snap_at, Scx, Done, Lost, Vlx, Same, Changed}
@@ -75,7 +76,7 @@ pub record IsLaterView (old new : PassView) : Type 0 where
 
 -- how many SCX-records the pass has taken, which is the number of its next call
 abbrev pub taken_of : PassView → ℕ
-taken_of p = p.layout.scx - p.share.scx
+taken_of p = p.share.next_scx - first_scx p.layout p.number
 
 -- after the start, P holds of each row of pass c
 abbrev pub HoldsOfOwn : (Row → Type 0) → ℕ → History → History → Type 0

@@ -2,11 +2,14 @@
 use Rattle.std.specs.Prelude.{ℕ, if◌then◌else◌, ◌==◌, List, [], ◌∷◌}
 use Rattle.histories.specs.Common.{Layout, Remaining, History, Entry}
 use Rattle.template.specs.Common.{AreFinished, IsShare}
+use Rattle.prims.specs.Shares.{IsUpperEnd}
 
 -- pass c is between two calls: it has taken all of its share before what is left, and each
 -- SCX-record that it has taken is finished
 pub record IsBetweenCalls (lay : Layout) (c : ℕ) (h : History) (left : Remaining) : Type 0 where
   pub share : IsShare lay h c left left.next_node left.next_scx
+  -- what is left is all of its names from there on
+  pub upper : IsUpperEnd lay c left
   pub over : AreFinished lay c left.next_scx h
 
 -- the entries of pass c among these

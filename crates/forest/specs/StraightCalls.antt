@@ -2,7 +2,7 @@
 use Rattle.arena.specs.Layout.{IsMap}
 use Rattle.std.specs.Prelude.{◌≡◌, ℕ, List, Option, Bool}
 use Rattle.histories.specs.Common.{Layout, Step, History, Call, Remaining}
-use Rattle.dict.specs.Calls.{KeepsTriesButOne, call_in, share_of, trie_in}
+use Rattle.dict.specs.Calls.{KeepsEnd, KeepsTriesButOne, call_in, share_of, trie_in}
 use Rattle.dict.specs.DictKnown.{DictIsReady, DictWaits, DictAnswers}
 use Rattle.dict.specs.Known.{IsUnbegun, MapAnswers}
 use Rattle.dict.specs.Typed.{TypedAllows}
@@ -37,9 +37,10 @@ module _ {K V : Type 0} (valid_key : K → Type 0) (key : K → ℕ) (valid_valu
   abbrev pub DictCallWaits : DictRun K V → Call → History → Step → Type 0
   DictCallWaits = DictWaits (IsWordOf valid_key key) (IsWordOf valid_value value)
 
-  -- the second machine is of the same call as the first, and has given up one try at most
+  -- the second machine is of the same call as the first, and has given up one try at most; what is
+  -- left of its share ends where it did
   abbrev pub IsSameDictCall : DictRun K V → DictRun K V → Type 0
-  IsSameDictCall old now = (call_in now.run ≡ call_in old.run) × (now.tries ≡ old.tries) × KeepsTriesButOne old.run now.run × (trie_in now.run ≡ trie_in old.run)
+  IsSameDictCall old now = (call_in now.run ≡ call_in old.run) × (now.tries ≡ old.tries) × KeepsTriesButOne old.run now.run × (trie_in now.run ≡ trie_in old.run) × KeepsEnd old.run now.run
 
   module _ (c : Call) (ps : List SeatedPass) (first : DictRun K V) where
     -- a call begins with the machine `first`

@@ -21,6 +21,7 @@ use Rattle.edits.specs.declared.update.UpdateAt.TheVariants.{Start, Fill, Scx}
 use Rattle.edits.specs.declared.update.UpdateRun.{UpdateRun}
 use Rattle.edits.specs.declared.update.Updated.{Updated}
 use Rattle.prims.specs.Scx.Steps.{scx_left}
+use Rattle.prims.specs.Shares.{share_end}
 use Rattle.prims.specs.declared.scx.ScxAt.TheVariants.{Help}
 use Rattle.forest.specs.StraightScx.{all_frozen_load}
 use Rattle.forest.specs.declared.straight.hand.Hand.{Hand}
@@ -35,13 +36,14 @@ use Rattle.forest.specs.Traces.{Trace, HoldsForCall, shared_nodes}
 
 -- The second run is the same update further on, which has given up one try at most. Of the share
 -- no more is taken than may be, if this many tries may still take nodes, and this many an
--- SCX-record.
+-- SCX-record; what is left ends where it did.
 pub record HasUpdateGoneOn {E A : Type 0} (e : EditMeaning E) (old : UpdateRun E UpdateAt) (now : UpdateRun E A) (nodes scx : ℕ) : Type 0 where
   pub edit : now.edit ≡ old.edit
   pub called : now.call ≡ old.call
   pub limit : now.limit ≡ old.limit
   pub tries : (old.tries ≤ now.tries + 1) × (now.tries ≤ old.tries)
   pub spends : Spends (e.most_nodes now.edit) old.share now.share (node_tries old old.at) nodes (scx_tries old old.at) scx
+  pub end : share_end now.share ≡ share_end old.share
 
 -- an update that has made nothing yet, in the call of this number
 abbrev pub new_update : {E : Type 0} → E → Remaining → ℕ → ℕ → UpdateRun E (Unit {0})

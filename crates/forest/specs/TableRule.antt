@@ -1,5 +1,5 @@
 -- The rule of the table: what its words and the views of all seats have to do with one lawful run.
-use Rattle.std.specs.Prelude.{◌≡◌, ◌≢◌, ◌<◌, ℕ, zero, suc, List, [], ◌∷◌, ◌++◌, length, slice_index}
+use Rattle.std.specs.Prelude.{◌≡◌, ◌≢◌, ◌<◌, ℕ, zero, suc, false, List, [], ◌∷◌, ◌++◌, length, slice_index}
 use mathlib.Core.Option.{some}
 use lib.ListN.{get_elem?}
 use Rattle.atomic_table.specs.Seated.{TableId}
@@ -7,6 +7,7 @@ use Rattle.atomic_table.specs.Table.{State}
 use Rattle.histories.specs.Common.{Layout, Settled, Head, Word, LoadSettled, Load, Row, place, table_size, IsWord, node, word_after, History, Opened, ◌⊳◌, value, IsRun, IsTold}
 use Rattle.planting.specs.Plantings.{PlantingView, opening_for}
 use Rattle.forest.specs.declared.rule.CallStep.{CallStep}
+use Rattle.forest.specs.declared.memory.PassMemory.{PassMemory}
 use Rattle.forest.specs.declared.rule.Plot.{Plot}
 use Rattle.forest.specs.declared.view.SeatedPass.{SeatedPass}
 use Rattle.forest.specs.declared.view.SeatView.{SeatView}
@@ -16,10 +17,14 @@ abbrev pub history_of : PlantingView → List Row → History
 history_of planting [] = Opened (opening_for planting)
 history_of planting (r ∷ rs) = r ⊳ history_of planting rs
 
--- the pass of this number in a table that is planted so, which has rested last after some rows, and
--- knows these
-abbrev pub seated_pass : ℕ → Layout → PlantingView → (rested rows : List Row) → SeatedPass
-seated_pass n lay planting rested rows = record { number = record { 0 = n }; layout = lay; planting = planting; rested = rested; known = rows }
+-- the pass of this number in a table that is planted so, which remembers so much, and knows these
+-- rows
+abbrev pub seated_pass : ℕ → Layout → PlantingView → PassMemory → List Row → SeatedPass
+seated_pass n lay planting memory rows = record { number = record { 0 = n }; layout = lay; planting = planting; memory = memory; known = rows }
+
+-- what a pass remembers that has not rested, and has noted nothing
+abbrev pub no_memory : PassMemory
+no_memory = record { rested = []; away = false; often = 0; nodes_to = 0; scx_to = 0; notes = []; polls = []; holds = []; empty = []; zeros = [] }
 
 -- what a seat knows that has these passes
 abbrev pub seat_view : List SeatedPass → SeatView
@@ -83,7 +88,7 @@ pub record Made (allows : Layout → History → ℕ → Type 0) (said : CallSte
   pub before : IsRun allows pass.layout (past_of pass others)
   pub after : IsRun allows pass.layout (row pass.number.0 said (past_of pass others) ⊳ past_of pass others)
   pub told : IsTold said.step.access (value (past_of pass others) said.step.word) n
-  pub is : qs ≡ seated_pass pass.number.0 pass.layout pass.planting pass.rested (row pass.number.0 said (past_of pass others) ∷ (others ++ pass.known)) ∷ []
+  pub is : qs ≡ seated_pass pass.number.0 pass.layout pass.planting pass.memory (row pass.number.0 said (past_of pass others) ∷ (others ++ pass.known)) ∷ []
 
 -- a look at the table: a load of the head of node 0, which is of no call
 abbrev pub look : CallStep
@@ -102,14 +107,18 @@ pub record Looked (allows : Layout → History → ℕ → Type 0) (ps qs : List
   pub same : plot_of second ≡ plot_of first
   pub before : IsRun allows first.layout (history_of first.planting run)
   pub after : IsRun allows first.layout (row first.number.0 look (history_of first.planting run) ⊳ history_of first.planting run)
-  pub are : qs ≡ second ∷ seated_pass first.number.0 first.layout first.planting first.rested (row first.number.0 look (history_of first.planting run) ∷ run) ∷ []
+  pub are : qs ≡ second ∷ seated_pass first.number.0 first.layout first.planting first.memory (row first.number.0 look (history_of first.planting run) ∷ run) ∷ []
 
 -- Dealing and joining
 
--- n passes, numbered from `from` on, that know nothing yet
+-- n passes, numbered from `from` on, that remember so much, each by its number, and know nothing yet
+abbrev pub passes_with : (ℕ → PassMemory) → Plot → ℕ → ℕ → List SeatedPass
+passes_with memory plot from zero = []
+passes_with memory plot from (suc n) = seated_pass from plot.layout plot.planting (memory from) [] ∷ passes_with memory plot (suc from) n
+
+-- so many that remember nothing either
 abbrev pub new_passes : Plot → ℕ → ℕ → List SeatedPass
-new_passes plot from zero = []
-new_passes plot from (suc n) = seated_pass from plot.layout plot.planting [] [] ∷ new_passes plot (suc from) n
+new_passes = passes_with (λ c. no_memory)
 
 -- the passes after the first
 abbrev pub rest_of : List SeatedPass → List SeatedPass
@@ -153,7 +162,7 @@ pub record IsAlone (lay : Layout) (ps : List SeatedPass) : Type 0 where
 
 -- a pass that has looked at the table after this run
 abbrev pub after_look : SeatedPass → List Row → SeatedPass
-after_look p run = seated_pass p.number.0 p.layout p.planting p.rested (row p.number.0 look (history_of p.planting run) ∷ run)
+after_look p run = seated_pass p.number.0 p.layout p.planting p.memory (row p.number.0 look (history_of p.planting run) ∷ run)
 
 -- the pass knew a beginning of the run, and its look is lawful after the run
 pub record HasLookedBehind (allows : Layout → History → ℕ → Type 0) (p : SeatedPass) (run : List Row) : Type 0 where

@@ -1,10 +1,11 @@
 -- The course of a call: the rows that the run has got while it was made.
 use Rattle.std.specs.Prelude.{◌≡◌, ◌≢◌, ◌==◌, if◌then◌else◌, ℕ, suc, List, [], ◌∷◌, Option, Some, None}
 use Rattle.histories.specs.Common.{Layout, Row, Step, History, ◌⊳◌, Extends, Call, IsRun, MatchTurn, row_of, Turn, Ask, Done, most_taken}
+use Rattle.forest.specs.declared.memory.PassMemory.{PassMemory}
 use Rattle.forest.specs.declared.view.SeatedPass.{SeatedPass}
 use Rattle.arena.specs.declared.limits.Mode.TheVariants.{Records}
 use Rattle.planting.specs.Plantings.{PlantingView, nothing_planted}
-use Rattle.forest.specs.TableRule.{history_of, seated_pass}
+use Rattle.forest.specs.TableRule.{history_of, no_memory, seated_pass}
 
 -- how a call, begun with the machine `first`, has reached the machine m and the history h
 pub data Trace {M : Type 0} (allows : Layout → History → ℕ → Type 0) (waits : M → Call → History → Step → Type 0) (same : M → M → Type 0) (c : Call) (first : M) : M → History → Type 0 where
@@ -20,9 +21,9 @@ pub data Trace {M : Type 0} (allows : Layout → History → ℕ → Type 0) (wa
 -- The seat has the pass of the call alone, which knows these rows; and the call began when the pass
 -- had rested last, or later.
 pub record IsInCall (ps : List SeatedPass) (c : Call) (planting : PlantingView) (known : List Row) : Type 0 where
-  pub rested : List Row
-  pub alone : ps ≡ seated_pass c.pass c.layout planting rested known ∷ []
-  pub since : Extends c.start (history_of planting rested)
+  pub memory : PassMemory
+  pub alone : ps ≡ seated_pass c.pass c.layout planting memory known ∷ []
+  pub since : Extends c.start (history_of planting memory.rested)
 
 -- so it is in the call, and P holds of the run that the pass knows
 pub record HoldsForCall (allows : Layout → History → ℕ → Type 0) (ps : List SeatedPass) (c : Call) (P : History → Type 0) : Type 0 where
@@ -88,18 +89,18 @@ known_of (p ∷ ps) = p.known
 abbrev pub run_at : List SeatedPass → History
 run_at ps = history_of (planting_of ps) (known_of ps)
 
--- the run that it knew as it rested last
-abbrev pub rested_of : List SeatedPass → List Row
-rested_of [] = []
-rested_of (p ∷ ps) = p.rested
+-- what it remembers, and the run that it knew as it rested last
+abbrev pub memory_of : List SeatedPass → PassMemory
+memory_of [] = no_memory
+memory_of (p ∷ ps) = p.memory
 
 abbrev pub rest_at : List SeatedPass → History
-rest_at ps = history_of (planting_of ps) (rested_of ps)
+rest_at ps = history_of (planting_of ps) (memory_of ps).rested
 
 -- A seat has the pass of this number alone, which has rested last at a moment of the run that it
 -- knows.
 pub record IsSeated (n : ℕ) (lay : Layout) (ps : List SeatedPass) : Type 0 where
-  pub alone : ps ≡ seated_pass n lay (planting_of ps) (rested_of ps) (known_of ps) ∷ []
+  pub alone : ps ≡ seated_pass n lay (planting_of ps) (memory_of ps) (known_of ps) ∷ []
   pub since : Extends (run_at ps) (rest_at ps)
 
 -- a seat's one pass knows these rows, in a table that is planted so

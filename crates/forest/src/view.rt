@@ -1,10 +1,11 @@
 //! What a seat knows. No value of these types is made.
+use crate::memory::PassMemory;
 use arena::{Layout, PassNo, Row};
 use planting::Planting;
 use std::collections::LinkedList;
 
-/// A pass, the table's layout, what was planted in it, and the run up to the pass's own last step,
-/// newest row first. In a table that lasts a pass rests between calls.
+/// A pass, the table's layout, what was planted in it, what the pass remembers from one call to the
+/// next, and the run up to its own last step, newest row first.
 pub struct SeatedPass {
     /// The number of the pass.
     pub number: PassNo,
@@ -12,8 +13,8 @@ pub struct SeatedPass {
     pub layout: Layout,
     /// What was planted in its table.
     pub planting: Planting,
-    /// The run up to its last rest, the newest row first: none in a table that does not last.
-    pub rested: LinkedList<Row>,
+    /// What it remembers: nothing in a table that does not last.
+    pub memory: PassMemory,
     /// The run up to its own last step, the newest row first.
     pub known: LinkedList<Row>,
 }

@@ -24,6 +24,7 @@ use Rattle.player.specs.declared.client.Client.{Client}
 use Rattle.player.specs.declared.client.SetField.{SetField}
 use Rattle.record.specs.declared.record.Answer.{Answer}
 use Rattle.record.specs.declared.record.Answer.TheVariants.{Unlinked, Map as MapAnswer}
+use Rattle.prims.specs.Shares.{IsUpperEnd}
 use Rattle.edits.specs.Known.{RestsWith}
 use Rattle.edits.specs.Laws.Entered.{none_yet}
 use Rattle.dict.specs.Laws.Begins.{dict_begins}
@@ -98,7 +99,7 @@ rests_with : (v : ClientView) (c : Client) (r : Rests v c) → RestsWith (machin
 rests_with v c r = record { share = r.holds.share; over = over }
   where
     next_free : (s : ℕ) → s ≡ (held c).next_scx → IsOwnScx v.layout c.pass.0 s → ¬ IsTakenScx v.past s
-    next_free s e own = r.holds.share.untaken s record { from = omega (arith, e); below = let a = own.below in let b = r.holds.share.to_scx in omega (arith, a, b) }
+    next_free s e own = r.holds.share.untaken s own (omega (arith, e))
 
     over : AreFinished v.layout c.pass.0 0 v.past
     over s own d t = ⊎_elim (λ e. absurd (next_free s e own t)) (λ e. r.holds.over s own e t) (either s (held c).next_scx)
@@ -119,7 +120,7 @@ map_starts v began c m request sound map r u few asks made is = record {
   works = record {
     mode = mode;
     stands = record { is_pass = r.stands.is_pass; tries = r.stands.tries; number = r.stands.number; place = r.stands.place; kept = r.stands.kept; unkept = r.stands.unkept; dropped = r.stands.dropped; free = r.stands.free; trie = r.stands.trie };
-    holds = tt;
+    holds = upper;
     newest = tt;
     command = Map request;
     is = is;
@@ -146,6 +147,9 @@ map_starts v began c m request sound map r u few asks made is = record {
 
     has : held c ≡ share_of m.run
     has = ap (λ (o : Option Remaining). unwrap_or o record { next_node = 0; nodes = 0; next_scx = 0; scx = 0 }) (sym made.share)
+
+    upper : IsUpperEnd v.layout c.pass.0 (share_of m.run)
+    upper = subst (IsUpperEnd v.layout c.pass.0) has r.holds.upper
 
 -- a machine of a command asks for a step first
 pub asks_first : (command : Command) (number : ℕ) (run : Run) (then : Option SetField) → IsMachineOf command number run then → RunAsksFirst run
@@ -187,7 +191,7 @@ among_snaps snaps cells n e x = go (has_snap snaps n) refl
 
 -- what is known of a client does not ask when its call began
 pub rests_at : (v : ClientView) (c : Client) (turn : ℕ) → Rests v c → Rests v (record c { begin = turn })
-rests_at v c turn r = record { holds = record { some = r.holds.some; share = r.holds.share; over = r.holds.over }; stands = record { is_pass = r.stands.is_pass; tries = r.stands.tries; number = r.stands.number; place = r.stands.place; kept = r.stands.kept; unkept = r.stands.unkept; dropped = r.stands.dropped; free = r.stands.free; trie = r.stands.trie }; none = r.none }
+rests_at v c turn r = record { holds = record { some = r.holds.some; share = r.holds.share; upper = r.holds.upper; over = r.holds.over }; stands = record { is_pass = r.stands.is_pass; tries = r.stands.tries; number = r.stands.number; place = r.stands.place; kept = r.stands.kept; unkept = r.stands.unkept; dropped = r.stands.dropped; free = r.stands.free; trie = r.stands.trie }; none = r.none }
 
 -- a call that runs has begun
 pub begins_so : (v : ClientView) (old new : Client) → GoesOn v old new → BeginsOrRefuses v old.begin old new None
@@ -241,7 +245,7 @@ scx_linked v c command snaps cells r kept nodes = are_linked v c command snaps c
 pub begins_put : (v : ClientView) (began : Option ℕ) (old new : Client) (update : _) (answer : Option Answer) → IsNextCallUnbegun v began → command_of v old ≡ Some (ScxCommand update) → AreLinked v.linked (update_cells update) → Puts v v.linked old new answer → BeginsOrRefuses v old.begin old new answer
 begins_put v began old new update None u is linked p = (p.same, p.begin, (p.running, p.is, p.waits))
 begins_put v began old new update (Some answer) u is linked p =
-    let w = full_answer v.layout v.past new.pass.0 (held new) answer p.2.holds.share p.3 in
+    let w = full_answer v.layout v.past new.pass.0 (held new) answer p.2.holds.share p.2.holds.upper p.3 in
     subst (λ (a : Answer). BeginsOrRefuses v old.begin old new (Some a)) (sym w.is)
     (p.0, p.1, record { rests = record { stands = p.2.stands; holds = p.2.holds; none = p.2.none }; command = ScxCommand update; is = rw p.0.pass is; refusal = tt; right = (linked, w.few); unwon = u.won; took = taken_nothing v new.pass.0 (held new) 1 1 p.2.holds.share (taken_none v new.pass.0 (no_hand (held new)) u.start) })
 

@@ -58,7 +58,7 @@ is_kept left (Map a) (Map b) x = record {
   room = λ v c p. p;
   limit = λ tries p. x.1 ∙ p;
   mode = λ lay e. e ∙ ap map_mode (sym x.2);
-  holds = λ v c p. p;
+  holds = λ v c p. x.3 ∙ p;
   took = λ v c p. p;
 }
 is_kept left old now x = absurd x
@@ -69,10 +69,10 @@ stands_so v c running hand x = record { is_pass = x.is_pass; tries = x.tries; nu
 
 -- nor what it holds of its share
 so_held : (v : ClientView) (c : Client) (running : Option Running) (hand : Hand) → HoldsShare v c hand → HoldsShare v (record c { running = running }) hand
-so_held v c running hand x = record { some = x.some; share = x.share; over = x.over }
+so_held v c running hand x = record { some = x.some; share = x.share; upper = x.upper; over = x.over }
 
 holds_so : (v : ClientView) (c : Client) (running : Option Running) (run : Run) → Holds v c run → Holds v (record c { running = running }) run
-holds_so v c running (Map m) x = tt
+holds_so v c running (Map m) x = x
 holds_so v c running run x = so_held v c running _ x
 
 took_so : (v : ClientView) (c : Client) (running : Option Running) (run : Run) → TakesInHand v c run → TakesInHand v (record c { running = running }) run
@@ -136,14 +136,14 @@ is_itself : (run : Run) → IsSameMachine run run
 is_itself (Llx m) = refl
 is_itself (Scx m) = (refl, refl, refl, refl)
 is_itself (Vlx m) = refl
-is_itself (Map m) = (refl, refl, refl)
+is_itself (Map m) = (refl, refl, refl, refl)
 
 -- with its share back, the client is the same
 back_so : (v : ClientView) (c : Client) (run : Run) (then : Option SetField) → Works v c run then → Works v (record c { share = share_behind run c.share }) run then
 back_so v c (Map m) then w = record {
   mode = w.mode;
   stands = record { is_pass = w.stands.is_pass; tries = w.stands.tries; number = w.stands.number; place = w.stands.place; kept = w.stands.kept; unkept = w.stands.unkept; dropped = w.stands.dropped; free = w.stands.free; trie = w.stands.trie };
-  holds = tt;
+  holds = w.holds;
   newest = tt;
   command = w.command;
   is = w.is;

@@ -33,6 +33,7 @@ use Rattle.player.specs.declared.client.Client.{Client}
 use Rattle.player.specs.ClientView.{ClientView, machine_call}
 use Rattle.player.specs.Moments.{IsAnswerMoment, IsOrderedMoment, IsReadMoment, IsReadingMoment, IsWonOrRead}
 use Rattle.player.proofs.Keys.{some_edit}
+use Rattle.prims.specs.Shares.{IsUpperEnd}
 use Rattle.player.proofs.Left.{short_left}
 
 -- Which edit a call has made
@@ -271,12 +272,16 @@ module _ (v : ClientView) (c : Client) (is_pass : c.pass.0 < v.layout.passes) wh
   lost : (of : MapCall) (n s : ℕ) → HasLost call v.past of v.tries n s → HasLostAllTries v.layout v.tries c.pass.0 v.past v.start n s
   lost of n s x = (x.lost.others, x.lost.all.lost)
 
+  -- the pass rests with this share, which is the upper end of its names
+  abbrev pub RestsAbove : Remaining → Type 0
+  RestsAbove share = RestsWith call v.past share × IsUpperEnd v.layout c.pass.0 share
+
   -- a share that is too small for the next try was so for the first, or a try was lost
-  too_few : (of : MapCall) (share : Remaining) (full : FullOf) → RestsWith call v.past share → (x : HasRunOut call v.past of share full) → HasTooFewToTry v.layout c.pass.0 v.past v.start (need of x.short.needed.map) full.what full.left
-  too_few of share full rests x = (short_left v.layout v.past c.pass.0 share rests.share (need of x.short.needed.map) full.what full.left x.short.short, from x.first)
+  too_few : (of : MapCall) (share : Remaining) (full : FullOf) → RestsAbove share → (x : HasRunOut call v.past of share full) → HasTooFewToTry v.layout c.pass.0 v.past v.start (need of x.short.needed.map) full.what full.left
+  too_few of share full rests x = (short_left v.layout v.past c.pass.0 share rests.0.share rests.1 (need of x.short.needed.map) full.what full.left x.short.short, from x.first)
     where
       from : IsUntouched call v.past share → HasTooFew v.layout c.pass.0 v.start (need of x.short.needed.map) full.what full.left ⊎ WasBlocked v.layout c.pass.0 v.past v.start
-      from (inl at_first) = inl (short_left v.layout v.start c.pass.0 share at_first.share (need of x.short.needed.map) full.what full.left x.short.short)
+      from (inl at_first) = inl (short_left v.layout v.start c.pass.0 share at_first.share rests.1 (need of x.short.needed.map) full.what full.left x.short.short)
       from (inr (node, scx, way)) = inr (node, scx, (way.others, way.in_the_way))
 
   -- what a call needed since a moment of it, it had to change
@@ -304,7 +309,7 @@ module _ (v : ClientView) (c : Client) (is_pass : c.pass.0 < v.layout.passes) wh
     no_lack (Key k) x = x
     no_lack (End side) x = x
 
-    edit_right : (a : Reply ℕ ℕ) (share : Remaining) → RestsWith call v.past share → MayReply of (form_of a) → TellsOfMap call v.past of (number_reply a) → DictRefuses call v.past of share v.tries a → EditIsRight of v.layout v.tries c.pass.0 v.past v.start v.linked (MapAnswer a)
+    edit_right : (a : Reply ℕ ℕ) (share : Remaining) → RestsAbove share → MayReply of (form_of a) → TellsOfMap call v.past of (number_reply a) → DictRefuses call v.past of share v.tries a → EditIsRight of v.layout v.tries c.pass.0 v.past v.start v.linked (MapAnswer a)
     edit_right (Value told) share rests form tells why = tells_right (OneValue (option_map (λ n. n) told)) tells
     edit_right (PairOf found) share rests form tells why = tells_right (pair_or_none (option_map (word_pair (λ n. n) (λ n. n)) found)) tells
     edit_right (Pairs found) share rests form tells why = tells_right (ManyPairs (number_pairs found.items)) tells
@@ -318,7 +323,7 @@ module _ (v : ClientView) (c : Client) (is_pass : c.pass.0 < v.layout.passes) wh
     edit_right NoMemory share rests form tells why = absurd (no_lack goal form)
 
   -- an answer is right, to each call
-  pub answer_right : (to : MapCall) (a : Reply ℕ ℕ) (share : Remaining) → RestsWith call v.past share → MayReply to (form_of a) → TellsOfMap call v.past to (number_reply a) → DictRefuses call v.past to share v.tries a → (map_rules to).IsRight v.layout v.tries c.pass.0 v.past v.start v.linked (MapAnswer a)
+  pub answer_right : (to : MapCall) (a : Reply ℕ ℕ) (share : Remaining) → RestsAbove share → MayReply to (form_of a) → TellsOfMap call v.past to (number_reply a) → DictRefuses call v.past to share v.tries a → (map_rules to).IsRight v.layout v.tries c.pass.0 v.past v.start v.linked (MapAnswer a)
   answer_right (Edit goal rule) a share rests form tells why = edit_right goal rule a share rests form tells why
   answer_right (Get key) (Value old) share rests form tells why = answer_at key old (subst (TellsOfMap call v.past (Get key)) (value_told old) tells)
   answer_right (Neighbour side key) (PairOf found) share rests form tells why = tt

@@ -27,6 +27,7 @@ use Rattle.record.specs.Shares.{HasTakenAtMost}
 use Rattle.dict.specs.Calls.{AsksForPairs, HasSpent, share_of}
 use Rattle.dict.specs.DictKnown.{DictAnswers, DictRefuses}
 use Rattle.dict.specs.Says.{TellsOfMap}
+use Rattle.prims.specs.Shares.{IsUpperEnd}
 use Rattle.edits.specs.Known.{RestsWith}
 use Rattle.player.specs.Allowed.{FitsTwoWords, IsSmall}
 use Rattle.player.proofs.MapEnds.{IsRightEnd, map_ends, entered_some, entered_none}
@@ -213,6 +214,7 @@ holds_scx : (v : ClientView) (c : Client) (m : PutRun) (then : Option SetField) 
 holds_scx v c m then a linked sound x = record {
   some = x.works.holds.some;
   share = share_ends v.layout v.past c.pass.0 (held c) m.scx.update.fresh.0 m.scx.scx.0 x.works.newest.0 x.works.newest.1 x.answers.0.taken (scx_taken v c m then a sound x) x.works.holds.share;
+  upper = x.works.holds.upper;
   over = over_begins v.layout c.pass.0 (held c).next_scx v.past (over_ends v.layout c.pass.0 m.scx.scx.0 v.past x.works.holds.over (scx_finished v c m then a x));
 }
 
@@ -319,7 +321,7 @@ rests_as v c linked drops x = record {
 
 -- nor does what it holds of its share
 holds_as : (v : ClientView) (c : Client) (linked : ℕ → Option History) (hand : Hand) → HoldsShare v c hand → HoldsShare (record v { linked = linked }) c hand
-holds_as v c linked hand x = record { some = x.some; share = x.share; over = x.over }
+holds_as v c linked hand x = record { some = x.some; share = x.share; upper = x.upper; over = x.over }
 
 ends_vlx : (v : ClientView) (c : Client) (run : Run) (then : Option SetField) (a : VlxAnswer) → Answered v c run then (ended.Vlx a) → EndsCall v c c (answer_of (ended.Vlx a))
 ends_vlx v c (Vlx m) then a x =
@@ -367,10 +369,11 @@ map_outcome : (v : ClientView) (c : Client) (request : Request ℕ ℕ) (answer 
 map_outcome v c request answer x took = record { answers = x.answers; right = x.right; entry = x.entry; tells = x.tells; took = took; drops = record { gone = λ n z. absurd (among_none n z); others = λ n z. map_leaves v request answer n } }
 
 -- the share is the client's again
-holds_back : (v : ClientView) (c : Client) (share : Remaining) (is_pass : c.pass.0 < v.layout.passes) → c.share ≡ Some share → RestsWith (machine_call v c is_pass v.start) v.past share → HoldsShare v c (no_hand (held c))
-holds_back v c share is_pass back rests = record {
+holds_back : (v : ClientView) (c : Client) (share : Remaining) (is_pass : c.pass.0 < v.layout.passes) → c.share ≡ Some share → RestsWith (machine_call v c is_pass v.start) v.past share → IsUpperEnd v.layout c.pass.0 share → HoldsShare v c (no_hand (held c))
+holds_back v c share is_pass back rests upper = record {
   some = rw back refl;
   share = rw back rests.share;
+  upper = rw back upper;
   over = rw back (over_begins v.layout c.pass.0 share.next_scx v.past rests.over);
 }
 
@@ -385,14 +388,14 @@ ends_map v c (Map m) then a x =
     let refuses : DictRefuses call v.past (map_request request) share m.tries a = subst (λ (k : MapCall). DictRefuses call v.past k share m.tries a) of answers.refuses in
     let spent : HasSpent call v.past (map_request request) m.tries share = subst (λ (k : MapCall). HasSpent call v.past k m.tries share) of answers.spent in
     let right =
-    map_ends v c works.is_pass works.won request a share (subst AsksForPairs of works.run_of.asks) answers.rests
+    map_ends v c works.is_pass works.won request a share (subst AsksForPairs of works.run_of.asks) (answers.rests, works.holds)
     (subst (λ (k : MapCall). MayReply k (form_of a)) of answers.form)
     (subst (λ (k : MapCall). TellsOfMap call v.past k (number_reply a)) of answers.tells)
     (subst (λ (n : ℕ). DictRefuses call v.past (map_request request) share n a) works.limit refuses) in
     let took =
     map_took call v.past request v.tries share (subst (λ (k : History). Extends v.past k) works.begun works.since) answers.rests
     (subst (λ (n : ℕ). HasSpent call v.past (map_request request) n share) works.limit spent) in
-    ends_as v c works.command (MapAnswer a) works.is works.stands (holds_back v c share works.is_pass x.back answers.rests) x.none
+    ends_as v c works.command (MapAnswer a) works.is works.stands (holds_back v c share works.is_pass x.back answers.rests works.holds) x.none
     (subst (λ (k : Command). IsOutcome v c.pass.0 [] k (MapAnswer a)) (sym works.run_of.is) (map_outcome v c request (MapAnswer a) right took))
     works.late
 ends_map v c run then a x = absurd x.answers
@@ -439,7 +442,7 @@ rests_kept v c kept m then a linked sound x e said = record {
     free = λ map. absurd (let z : false ≡ true = sym (ap is_map x.works.mode) ∙ map in cc);
     trie = x.works.stands.trie;
   };
-  holds = record { some = x.works.holds.some; share = x.works.holds.share; over = x.works.holds.over };
+  holds = record { some = x.works.holds.some; share = x.works.holds.share; upper = x.works.holds.upper; over = x.works.holds.over };
   none = x.none;
 }
   where

@@ -1,27 +1,34 @@
 -- What is left of a share, as records say it.
-use Rattle.std.proofs.Common.{◌≡◌, ℕ, ◌<◌, refl, sym, ◌∙◌, arith}
-use Rattle.histories.specs.Common.{Layout, Resource, Nodes, History, Remaining}
+use Rattle.std.proofs.Common.{◌≡◌, ℕ, ◌+◌, ◌<◌, refl, sym, ◌∙◌, arith}
+use Rattle.histories.specs.Common.{Layout, Resource, Nodes, History, Remaining, first_node, first_scx}
 use Rattle.arena.specs.declared.fault.Resource.TheVariants.{Scx as ScxRecords}
 use Rattle.arena.specs.Share.{IsFullOf}
-use Rattle.prims.specs.Shares.{IsShare}
+use Rattle.prims.specs.Shares.{IsShare, IsUpperEnd}
+use Rattle.prims.proofs.Lemmas.{upper_end}
 use Rattle.record.specs.Shares.{HasNodesLeft, HasScxLeft, HasTooFew}
 use Rattle.dict.specs.Says.{HasTooLittle}
 
-module _ (lay : Layout) (h : History) (c : ℕ) (left : Remaining) (share : IsShare lay h c left left.next_node left.next_scx) where
+module _ (lay : Layout) (h : History) (c : ℕ) (left : Remaining) (share : IsShare lay h c left left.next_node left.next_scx) (upper : IsUpperEnd lay c left) where
+  to_node : left.next_node + left.nodes ≡ first_node lay c + lay.nodes
+  to_node = (upper_end lay c left upper).0
+
+  to_scx : left.next_scx + left.scx ≡ first_scx lay c + lay.scx
+  to_scx = (upper_end lay c left upper).1
+
   -- its nodes are the last ones
   pub nodes_left : HasNodesLeft lay c h left.nodes
   nodes_left = record {
-    within = let a = share.from_node in let b = share.to_node in omega (arith, a, b);
-    taken = λ n own i. share.taken_nodes n own (let b = share.to_node in omega (arith, i, b));
-    untaken = λ n own i. share.untaken_nodes n record { from = let b = share.to_node in omega (arith, i, b); below = let a = own.below in let b = share.to_node in omega (arith, a, b) };
+    within = let a = share.from_node in let b = to_node in omega (arith, a, b);
+    taken = λ n own i. share.taken_nodes n own (let b = to_node in omega (arith, i, b));
+    untaken = λ n own i. share.untaken_nodes n own (let b = to_node in omega (arith, i, b));
   }
 
   -- and so its SCX-records
   pub scx_left : HasScxLeft lay c h left.scx
   scx_left = record {
-    within = let a = share.from_scx in let b = share.to_scx in omega (arith, a, b);
-    taken = λ s own i. share.taken_scx s own (let b = share.to_scx in omega (arith, i, b));
-    untaken = λ s own i. share.untaken s record { from = let b = share.to_scx in omega (arith, i, b); below = let a = own.below in let b = share.to_scx in omega (arith, a, b) };
+    within = let a = share.from_scx in let b = to_scx in omega (arith, a, b);
+    taken = λ s own i. share.taken_scx s own (let b = to_scx in omega (arith, i, b));
+    untaken = λ s own i. share.untaken s own (let b = to_scx in omega (arith, i, b));
   }
 
   -- a share with fewer nodes than an update needs

@@ -9,13 +9,12 @@ use Rattle.record.specs.Common.{MapCall, MapEdit, MapReply, OneValue, changes_ma
 use Rattle.record.specs.Common.{Pairs, Contended, Full, NoMemory, Request, HasItsEntry, MayAnswerAfterStep, enters, IsRight, reply_told, Command, Map as MapOf}
 use Rattle.ordered_map.proofs.Lemmas.{one_spelling}
 use Rattle.ordered_map.specs.declared.reply.Reply.TheVariants.{Pair}
-use Rattle.edits.specs.Known.{RestsWith}
 use Rattle.edits.specs.Tries.{HasEnteredNone}
 use Rattle.record.specs.declared.record.Answer.{Answer}
 use Rattle.record.specs.declared.record.Answer.TheVariants.{Map as MapAnswer}
 use Rattle.player.specs.declared.client.Client.{Client}
 use Rattle.player.specs.ClientView.{ClientView, IsOwnWin, IsToldBy, IsToldChange, IsToldOfMap, IsWonSince, AnswersRight, machine_call}
-use Rattle.player.proofs.EachCall.{TookPlace, ByEntry, ByValue, ByReply, Nowhere, HasTakenPlace, TellsSo, answer_right, is_by_entry, replied, took_place}
+use Rattle.player.proofs.EachCall.{TookPlace, ByEntry, ByValue, ByReply, Nowhere, HasTakenPlace, RestsAbove, TellsSo, answer_right, is_by_entry, replied, took_place}
 
 -- the answer is one that the command gives, it is right, and an update of the call has won if it
 -- says so
@@ -91,7 +90,7 @@ module _ (v : ClientView) (c : Client) (is_pass : c.pass.0 < v.layout.passes) (w
       go (ByReply given) t = by_told t.2.0 false (ap reply_told t.1 ∙ t.2.1) t.2.2
       go Nowhere t = entered_none v.won (unwon (none_entered (map_request r) a share t why))
 
-  pub map_ends : (r : Request ℕ ℕ) (a : Reply ℕ ℕ) (share : Remaining) → AsksForPairs (map_request r) → RestsWith call v.past share → MayReply (map_request r) (form_of a) → TellsOfMap call v.past (map_request r) (number_reply a) → DictRefuses call v.past (map_request r) share v.tries a → IsRightEnd v c.pass.0 (MapOf r) (MapAnswer a)
+  pub map_ends : (r : Request ℕ ℕ) (a : Reply ℕ ℕ) (share : Remaining) → AsksForPairs (map_request r) → RestsAbove v c is_pass share → MayReply (map_request r) (form_of a) → TellsOfMap call v.past (map_request r) (number_reply a) → DictRefuses call v.past (map_request r) share v.tries a → IsRightEnd v c.pass.0 (MapOf r) (MapAnswer a)
   map_ends r a share asks rests form tells why =
       let right = answer_right v c is_pass (map_request r) a share rests form tells why in
       record {

@@ -162,7 +162,7 @@ behind lay tries calls lines old new command said few r is b = go old.next refl
             free = r.stands.free;
             trie = r.stands.trie;
           };
-          holds = record { some = r.holds.some; share = r.holds.share; over = r.holds.over };
+          holds = record { some = r.holds.some; share = r.holds.share; upper = r.holds.upper; over = r.holds.over };
           none = r.none;
         }
 

@@ -4,7 +4,8 @@ use native.Mathlib.Decide.{ℕ_discrete}
 use Rattle.histories.specs.Common.{Layout, Step as Ask, Remaining, History, ◌⊳◌, Extends, IsOwnScx, IsTakenNode, IsTakenScx, Call, row_of}
 use Rattle.template.specs.Common.{AllowsAll, IsShare, most_nodes, most_scx, tries_since}
 use Rattle.prims.specs.Laws.Begun.{TakesOnly, takes_by_step, taken_since}
-use Rattle.prims.proofs.Lemmas.{put_takes, llx_fills_not, vlx_fills_not, untaken_node_by_step, put_untaken_node}
+use Rattle.prims.specs.Shares.{share_end}
+use Rattle.prims.proofs.Lemmas.{one_end, put_takes, llx_fills_not, vlx_fills_not, untaken_node_by_step, put_untaken_node}
 use Rattle.player.specs.declared.run.Run.{Run}
 use Rattle.player.specs.declared.run.Run.TheVariants.{Llx, Scx, Vlx, Map}
 use Rattle.edits.specs.Known.{RestsWith}
@@ -64,11 +65,11 @@ taken_nothing v c left most_scx nodes_each share x = record {
   few = omega arith;
   lowest_scx = 0;
   scx_records = λ s. (
-    λ y. ⊎_elim (λ e. absurd (share.untaken s record { from = omega (arith, e); below = let a = y.own.below in let b = share.to_scx in omega (arith, a, b) } y.taken)) (λ d. absurd (x.scx_records s y.own d y.not_then y.taken)) (either s left.next_scx),
+    λ y. ⊎_elim (λ e. absurd (share.untaken s y.own (omega (arith, e)) y.taken)) (λ d. absurd (x.scx_records s y.own d y.not_then y.taken)) (either s left.next_scx),
     λ i. absurd (omega (arith, i.1)),
   );
   lowest_node = 0;
-  nodes = λ n y. ⊎_elim (λ e. absurd (share.untaken_nodes n record { from = omega (arith, e); below = let a = y.own.below in let b = share.to_node in omega (arith, a, b) } y.taken)) (λ d. absurd (x.nodes n y.own d y.not_then y.taken)) (either n left.next_node);
+  nodes = λ n y. ⊎_elim (λ e. absurd (share.untaken_nodes n y.own (omega (arith, e)) y.taken)) (λ d. absurd (x.nodes n y.own d y.not_then y.taken)) (either n left.next_node);
 }
 
 -- of two numbers one is below the other, or not
@@ -77,29 +78,34 @@ ordered a b = grind arith
 
 -- what is left of a share does not grow
 scx_left_less : (lay : Layout) (c : ℕ) (now start : History) (old left : Remaining) → Extends now start → IsShare lay start c old old.next_node old.next_scx → IsShare lay now c left left.next_node left.next_scx → old.next_scx ≤ left.next_scx
-scx_left_less lay c now start old left since began share = ⊎_elim (λ i. i) (λ i. absurd (share.untaken left.next_scx record { from = omega arith; below = let a = began.to_scx in let b = share.to_scx in omega (arith, i, a, b) } (taken_since now start left.next_scx since (began.taken_scx left.next_scx record { from = share.from_scx; below = let a = began.to_scx in omega (arith, i, a) } i)))) (ordered old.next_scx left.next_scx)
+scx_left_less lay c now start old left since began share = ⊎_elim (λ i. i) none (ordered old.next_scx left.next_scx)
+  where
+    none : left.next_scx < old.next_scx → old.next_scx ≤ left.next_scx
+    none i =
+        let own : IsOwnScx lay c left.next_scx = record { from = share.from_scx; below = let a = began.to_scx in omega (arith, i, a) } in
+        absurd (share.untaken left.next_scx own (omega arith) (taken_since now start left.next_scx since (began.taken_scx left.next_scx own i)))
 
 -- this many nodes for each SCX-record
 nodes_for_each : (most old_nodes nodes old_scx scx many : ℕ) → scx + many ≡ old_scx → old_nodes + most * scx ≤ nodes + most * old_scx → old_nodes ≤ nodes + most * many
 nodes_for_each most old_nodes nodes old_scx scx many e i = let j : old_nodes + most * scx ≤ nodes + most * (scx + many) = rw (sym e) at i in omega (arith, j)
 
 -- one that has taken at most this many SCX-records, and this many nodes for each
-taken_few : (lay : Layout) (c most_scx most : ℕ) (now start : History) (old left : Remaining) → Extends now start → IsShare lay start c old old.next_node old.next_scx → IsShare lay now c left left.next_node left.next_scx → old.scx ≤ left.scx + most_scx → old.nodes + most * left.scx ≤ left.nodes + most * old.scx → HasTakenAtMost lay c now start most_scx most
-taken_few lay c most_scx most now start old left since began share few each = record {
+taken_few : (lay : Layout) (c most_scx most : ℕ) (now start : History) (old left : Remaining) → Extends now start → IsShare lay start c old old.next_node old.next_scx → IsShare lay now c left left.next_node left.next_scx → share_end left ≡ share_end old → old.scx ≤ left.scx + most_scx → old.nodes + most * left.scx ≤ left.nodes + most * old.scx → HasTakenAtMost lay c now start most_scx most
+taken_few lay c most_scx most now start old left since began share end few each = record {
   many = left.next_scx - old.next_scx;
-  few = let a = began.to_scx in let b = share.to_scx in omega (arith, a, b, few);
+  few = let a = (one_end left old end).1 in omega (arith, a, few);
   lowest_scx = old.next_scx;
   scx_records = λ s. (
     λ y. (
       ⊎_elim (λ i. i) (λ i. absurd (y.not_then (began.taken_scx s y.own i))) (ordered old.next_scx s),
-      ⊎_elim (λ i. absurd (share.untaken s record { from = i; below = let a = y.own.below in let b = share.to_scx in omega (arith, a, b) } y.taken)) (λ i. omega (arith, i, less)) (ordered left.next_scx s),
+      ⊎_elim (λ i. absurd (share.untaken s y.own i y.taken)) (λ i. omega (arith, i, less)) (ordered left.next_scx s),
     ),
     λ i. taken_then s i.0 (let d = i.1 in omega (arith, d, less)),
   );
   lowest_node = old.next_node;
   nodes = λ n y. (
     ⊎_elim (λ i. i) (λ i. absurd (y.not_then (began.taken_nodes n y.own i))) (ordered old.next_node n),
-    ⊎_elim (λ i. absurd (share.untaken_nodes n record { from = i; below = let a = y.own.below in let b = share.to_node in omega (arith, a, b) } y.taken)) (λ i. let a = began.to_node in let b = share.to_node in omega (arith, i, a, b, few_nodes)) (ordered left.next_node n),
+    ⊎_elim (λ i. absurd (share.untaken_nodes n y.own i y.taken)) (λ i. let a = (one_end left old end).0 in omega (arith, i, a, few_nodes)) (ordered left.next_node n),
   );
 }
   where
@@ -109,14 +115,14 @@ taken_few lay c most_scx most now start old left since began share few each = re
     taken_then : (s : ℕ) → old.next_scx ≤ s → s < left.next_scx → IsScxTakenSince lay c now start s
     taken_then s i j =
         let own : IsOwnScx lay c s = record { from = let a = began.from_scx in omega (arith, a, i); below = let b = share.to_scx in omega (arith, b, j) } in
-        record { own = own; not_then = began.untaken s record { from = i; below = let a = began.to_scx in let b = share.to_scx in omega (arith, a, b, j) }; taken = share.taken_scx s own j }
+        record { own = own; not_then = began.untaken s own i; taken = share.taken_scx s own j }
 
     few_nodes : old.nodes ≤ left.nodes + most * (left.next_scx - old.next_scx)
-    few_nodes = nodes_for_each most old.nodes left.nodes old.scx left.scx (left.next_scx - old.next_scx) (let a = began.to_scx in let b = share.to_scx in omega (arith, a, b, less)) each
+    few_nodes = nodes_for_each most old.nodes left.nodes old.scx left.scx (left.next_scx - old.next_scx) (let a = (one_end left old end).1 in omega (arith, a, less)) each
 
 -- a call of the map has taken what its tries may
 taken_tries : (c : Call) (h : History) (call : MapCall) (tries : ℕ) (left : Remaining) → Extends h c.start → RestsWith c h left → HasSpent c h call tries left → HasTakenAtMost c.layout c.pass h c.start (most_scx call tries) (most_nodes call)
-taken_tries c h call tries left since rests spent = taken_few c.layout c.pass (most_scx call tries) (most_nodes call) h c.start spent.left left since spent.first.share rests.share few spent.each
+taken_tries c h call tries left since rests spent = taken_few c.layout c.pass (most_scx call tries) (most_nodes call) h c.start spent.left left since spent.first.share rests.share spent.end few spent.each
   where
     few : spent.left.scx ≤ left.scx + most_scx call tries
     few = let less = tries_take call (tries_since c.pass h c.start) tries spent.tried.few in let taken = spent.scx in omega (arith, less, taken)

@@ -2,8 +2,8 @@
 use Rattle.std.proofs.Common.{◌≡◌, ℕ, ◌+◌, ◌<◌, ◌≤◌, ◌↔◌, map, ⊎_elim, true, false, cond, eqb, ne_eqb, List, [], ◌∷◌, length, if◌then◌else◌, Option, Some, None, slice_get, refl, sym, ◌∙◌, ap, subst, arith}
 use Rattle.std.proofs.Math.ListN.{set}
 use Rattle.arena.specs.Opening.{is_map}
-use Rattle.histories.specs.Common.{taken_nodes, Layout, Records, Side, Remaining, HasNode as HasOwnNode, HasScx, LoadInfo, History}
-use Rattle.histories.specs.Common.{Extends, IsLastStep, IsOwnScx, IsTakenScx, HasWon, NodeNo, plan_finalizes, side_of, Resource}
+use Rattle.histories.specs.Common.{taken_nodes, Layout, Records, Side, Remaining, LoadInfo, History}
+use Rattle.histories.specs.Common.{Extends, IsLastStep, IsOwnNode, IsOwnScx, IsTakenScx, HasWon, NodeNo, plan_finalizes, side_of, Resource}
 use Rattle.arena.specs.Share.{after_taking}
 use Rattle.arena.proofs.Lemmas.{last_now, ends_self}
 use Rattle.template.specs.Common.{update_field_index, Update, ListsNode, IsUpdateOver, nodes_of, snap_at, Snap, LlxRun, PutRun, Llx as LlxAnswer, Snapshot as LlxSnapshot, IsShare}
@@ -23,7 +23,8 @@ use Rattle.record.specs.Shares.{HasTooFew}
 use Rattle.player.proofs.Left.{full_left}
 use Rattle.player.specs.ClientView.{call_steps, ClientView, IsSound, IsLlxOf, IsPutOf, no_hand, held, HoldsShare, IsClientState, Rests, Starts, Answered, HasBeenTold, TellsFull, CanPut, Puts, BeginsOrRefuses}
 use Rattle.prims.specs.Laws.Begun.{taken_since}
-use Rattle.prims.proofs.Lemmas.{taken_node_since, left_own_node, left_own_scx, taken_share, free_unnamed, all_over, put_ready_first}
+use Rattle.prims.specs.Shares.{IsUpperEnd}
+use Rattle.prims.proofs.Lemmas.{taken_node_since, left_own_node, left_own_scx, same_end, taken_share, free_unnamed, all_over, put_ready_first}
 use Rattle.player.proofs.Over.{taken_nothing}
 use Rattle.player.proofs.Snapshots.{has_snap, dropped, kept_without, unkept_without}
 use Rattle.player.proofs.MapEnds.{entered_none}
@@ -38,9 +39,9 @@ pub record IsFullAnswer (lay : Layout) (c : ℕ) (h : History) (answer : Answer)
   pub is : answer ≡ Full what left
   pub few : HasTooFew lay c h 1 what left
 
-pub full_answer : (lay : Layout) (h : History) (c : ℕ) (left : Remaining) (answer : Answer) → IsShare lay h c left left.next_node left.next_scx → TellsFull left answer → IsFullAnswer lay c h answer
-full_answer lay h c left (Full what k) share full = record { what = what; left = k; is = refl; few = full_left lay h c left share what k full }
-full_answer lay h c left answer share full = absurd full
+pub full_answer : (lay : Layout) (h : History) (c : ℕ) (left : Remaining) (answer : Answer) → IsShare lay h c left left.next_node left.next_scx → IsUpperEnd lay c left → TellsFull left answer → IsFullAnswer lay c h answer
+full_answer lay h c left (Full what k) share upper full = record { what = what; left = k; is = refl; few = full_left lay h c left share upper what k full }
+full_answer lay h c left answer share upper full = absurd full
 
 -- The SCX of a set
 
@@ -97,7 +98,7 @@ told_put v old new kept m put snap (Some answer) x p = go x.works.command x.work
   where
     go : (command : Command) → slice_get (commands v.calls old.pass.0) v.answered ≡ Some command → IsLlxOf command m.node.0 (Some put) → Rests (record v { linked = linked_now v command }) new → HasBeenTold v old new (Some answer)
     go (SetOf field y) is f rests =
-        let w = full_answer v.layout v.past new.pass.0 (held new) answer rests.holds.share p.3 in
+        let w = full_answer v.layout v.past new.pass.0 (held new) answer rests.holds.share rests.holds.upper p.3 in
         subst (λ (a : Answer). HasBeenTold v old new (Some a)) (sym w.is)
         record {
           same = record { pass = p.0.pass; number = p.0.number; next = p.0.next };
@@ -150,6 +151,7 @@ put_starts v linked c snaps removed field x kept m sound can some_node some_scx 
     holds = record {
       some = refl;
       share = rw (fresh, scx) (taken_share v.layout v.past c.pass.0 (held c) some_node some_scx h.share);
+      upper = same_end (held c) some_node some_scx ∙ h.upper;
       over = rw scx h.over;
     };
     newest = (omega (arith, fresh), omega (arith, scx), real);
@@ -167,10 +169,10 @@ put_starts v linked c snaps removed field x kept m sound can some_node some_scx 
     room = (
       record {
         node_number = (held c).next_node;
-        own_node = left_own_node v.layout v.past c.pass.0 (held c) _ _ (held c).next_node h.share own_node;
-        free_node = λ t. h.share.untaken_nodes (held c).next_node own_node (taken_node_since v.past v.start (held c).next_node can.since t);
+        own_node = own_next_node;
+        free_node = λ t. h.share.untaken_nodes (held c).next_node own_next_node (omega arith) (taken_node_since v.past v.start (held c).next_node can.since t);
         scx_number = (held c).next_scx;
-        own_scx = left_own_scx v.layout v.past c.pass.0 (held c) _ _ (held c).next_scx h.share own_scx;
+        own_scx = own_next_scx;
         free_scx = fresh_scx;
       },
       rw scx fresh_scx,
@@ -181,8 +183,8 @@ put_starts v linked c snaps removed field x kept m sound can some_node some_scx 
   none = can.rests.none;
   ready = put_ready_first v.layout c.pass.0 c.number y.is_pass v.past m sound.lawful over (λ i p. rw is (let z = can.unspent i (rw is at p) in (z.0, z.1.usable))) at start own
       (rw scx h.share.taken_scx) free
-      (rw fresh (left_own_node v.layout v.past c.pass.0 (held c) _ _ (held c).next_node h.share own_node))
-      (rw fresh h.share.taken_nodes) (rw fresh (h.share.unmentioned (held c).next_node own_node)) (rw fresh (h.share.untaken_nodes (held c).next_node own_node)) (all_over v.layout v.past c.pass.0 (held c) _ _ h.share h.over);
+      (rw fresh own_next_node)
+      (rw fresh h.share.taken_nodes) (rw fresh (h.share.unmentioned (held c).next_node own_next_node (omega arith))) (rw fresh (h.share.untaken_nodes (held c).next_node own_next_node (omega arith))) (all_over v.layout v.past c.pass.0 (held c) _ _ h.share h.over);
   few = λ taken i. let few = can.few taken in omega (arith, bound);
 }
   where
@@ -192,23 +194,23 @@ put_starts v linked c snaps removed field x kept m sound can some_node some_scx 
     h : HoldsShare (record v { linked = linked }) c (no_hand (held c))
     h = can.rests.holds
 
-    own_node : HasOwnNode (held c) (held c).next_node
-    own_node = record { from = omega arith; below = omega arith }
+    own_next_node : IsOwnNode v.layout c.pass.0 (held c).next_node
+    own_next_node = left_own_node v.layout v.past c.pass.0 (held c) _ _ (held c).next_node h.share record { from = omega arith; below = omega arith }
 
-    own_scx : HasScx (held c) (held c).next_scx
-    own_scx = record { from = omega arith; below = omega arith }
+    own_next_scx : IsOwnScx v.layout c.pass.0 (held c).next_scx
+    own_next_scx = left_own_scx v.layout v.past c.pass.0 (held c) _ _ (held c).next_scx h.share record { from = omega arith; below = omega arith }
 
     fresh_scx : ¬ IsTakenScx v.start (held c).next_scx
-    fresh_scx t = h.share.untaken (held c).next_scx own_scx (taken_since v.past v.start (held c).next_scx can.since t)
+    fresh_scx t = h.share.untaken (held c).next_scx own_next_scx (omega arith) (taken_since v.past v.start (held c).next_scx can.since t)
 
     own : IsOwnScx v.layout c.pass.0 m.scx.scx.0
-    own = rw scx (left_own_scx v.layout v.past c.pass.0 (held c) _ _ (held c).next_scx h.share own_scx)
+    own = rw scx own_next_scx
 
     real : m.scx.scx.0 ≡ 0 → ⊥
     real e = let a = own.from in omega arith
 
     free : ¬ IsTakenScx v.past m.scx.scx.0
-    free = rw scx (h.share.untaken (held c).next_scx own_scx)
+    free = rw scx (h.share.untaken (held c).next_scx own_next_scx (omega arith))
 
     unwon : ¬ HasWon v.past m.scx.scx.0
     unwon = (free_unnamed v.layout v.past c.pass.0 m.scx.scx.0 sound.lawful own free).1

@@ -58,7 +58,7 @@ pub stands_from : (v : ClientView) (c : Client) (start : History) (won : Option 
 stands_from v c start won hand x = record { is_pass = x.is_pass; tries = x.tries; number = x.number; place = x.place; kept = x.kept; unkept = x.unkept; dropped = x.dropped; free = x.free; trie = x.trie }
 
 pub holds_from : (v : ClientView) (c : Client) (start : History) (won : Option ℕ) (hand : Hand) → HoldsShare v c hand → HoldsShare (record v { start = start; won = won }) c hand
-holds_from v c start won hand x = record { some = x.some; share = x.share; over = x.over }
+holds_from v c start won hand x = record { some = x.some; share = x.share; upper = x.upper; over = x.over }
 
 -- What a client has in hand
 
@@ -121,7 +121,7 @@ stands_more v c r start steps won hand run alone x = record {
 
 -- and what it holds of its share, if that is untouched and what it has taken finished
 holds_more : (v : ClientView) (c : Client) (r : Row) (start : History) (steps : ℕ) (won : Option ℕ) (hand : Hand) → IsShare v.layout (r ⊳ v.past) c.pass.0 (held c) hand.node hand.scx → AreFinished v.layout c.pass.0 hand.scx (r ⊳ v.past) → HoldsShare v c hand → HoldsShare (after_row v r start steps won) c hand
-holds_more v c r start steps won hand share over x = record { some = x.some; share = share; over = over }
+holds_more v c r start steps won hand share over x = record { some = x.some; share = share; upper = x.upper; over = over }
 
 -- a row leaves what a machine has in hand, except for a call of the map, which says so by itself
 abbrev LeavesHand : ClientView → Client → Row → Run → Type 0
@@ -281,7 +281,7 @@ module _ (v : ClientView) (c : Client) (r : Row) (number : ℕ) (start : History
   hand_then hand covers x h = stands_more v c r start v.steps won hand run (leaves_hand v c (r ⊳ v.past) hand run.lawful (share_then hand h).over covers x) x
 
   still_stands : (q : Run) (step : Ask) (p : c.pass.0 < v.layout.passes) (start : History) → RunWaits q (machine_call v c p start) (r ⊳ v.past) step → v.layout.mode ≡ run_mode q → IsClientState v c (in_hand (held c) q) → Holds v c q → StillStands q
-  still_stands (Map m) step p start w mode x h = record { stands = stands_more v c r _ v.steps won (in_hand (held c) (Map m)) run (leaves_map v c (r ⊳ v.past) _ (of_map v.layout.mode (trie_in m.run) mode) x) x; holds = tt; leaves = tt }
+  still_stands (Map m) step p start w mode x h = record { stands = stands_more v c r _ v.steps won (in_hand (held c) (Map m)) run (leaves_map v c (r ⊳ v.past) _ (of_map v.layout.mode (trie_in m.run) mode) x) x; holds = h; leaves = tt }
   still_stands q step p start w mode x h = record { stands = hand_then _ (covers_waits q (machine_call v c p start) (r ⊳ v.past) step (held c) tt run.lawful w (share_then _ h).share) x h; holds = share_then _ h; leaves = (takes_by_others v.layout c.pass.0 _ v.past r run.lawful other, λ n own d. nodes_then n own) }
 
   rests_by_others : Rests v c → Rests (after_row v r start v.steps won) c
@@ -329,7 +329,7 @@ module _ (v : ClientView) (c : Client) (q : Running) (sound : IsSound v) (w : Wa
       )
 
   stands_then : (won : Option ℕ) (run : Run) (found : ℕ) → RunWaits run call v.past q.step → RunIsReady run call (own_row v c q.step ⊳ v.past) (Some found) → v.layout.mode ≡ run_mode run → HasNewest (held c) run → IsClientState v c (in_hand (held c) run) → Holds v c run → StandsThen won run
-  stands_then won (Map m) found waits ready mode newest x h = record { stands = stands_more v c (own_row v c q.step) v.start (suc v.steps) won (in_hand (held c) (Map m)) (step_sound won) (leaves_map v c (own_row v c q.step ⊳ v.past) _ (of_map v.layout.mode (trie_in m.run) mode) x) x; holds = tt; leaves = tt }
+  stands_then won (Map m) found waits ready mode newest x h = record { stands = stands_more v c (own_row v c q.step) v.start (suc v.steps) won (in_hand (held c) (Map m)) (step_sound won) (leaves_map v c (own_row v c q.step ⊳ v.past) _ (of_map v.layout.mode (trie_in m.run) mode) x) x; holds = h; leaves = tt }
   stands_then won run found waits ready mode newest x h = let y = hand_stands won run found tt waits ready newest x h in record { stands = y.0; holds = y.1; leaves = (y.2, y.3) }
 
   -- the machine may get what the step found

@@ -5,12 +5,13 @@ use Rattle.histories.specs.Common.{taken_nodes, Side, Records, Layout, Row, Rema
 use Rattle.histories.specs.Common.{side_of, HasWon, IsWin, IsOwnNode, IsOwnScx, IsTakenNode, IsTakenScx, Call as MachineCall, IsRun}
 use Rattle.arena.specs.Opening.{IsMap}
 use Rattle.arena.specs.Share.{IsFull}
-use Rattle.dict.specs.Calls.{call_in}
+use Rattle.dict.specs.Calls.{call_in, share_of}
 use Rattle.dict.specs.Known.{AsksFirst}
 use Rattle.template.specs.Balance.{map_mode}
 use Rattle.dict.specs.declared.dict.DictRun.{DictRun}
 use Rattle.template.specs.Common.{AreFinished, nodes_of, IsShare, snap_at, IsAmong, update_field_index, PutRun, Snap}
 use Rattle.prims.specs.Moments.{IsMoment, AreLeftAlone, HasTakenOnly}
+use Rattle.prims.specs.Shares.{IsUpperEnd}
 use Rattle.record.specs.Common.{HasReplied, MapCall, MapEdit, MapReply, changes_map, reply, Spells, Pair, Call, Command, Llx as LlxOf, Scx as ScxOf, Vlx as VlxOf, Set as SetOf}
 use Rattle.record.specs.Common.{Map as MapOf, map_request, Request, cells_of, update_cells, update_finalize, update_field, update_value, history, answered, start, steps}
 use Rattle.record.specs.Common.{won, commands, linked, reply_told, command_steps, nodes_counted, MayAnswerAtOnce, MayAnswerAfterStep, HasTakenFew, enters, IsRight, IsLastLook, HasItsEntry}
@@ -154,13 +155,15 @@ pub record HoldsShare (v : ClientView) (c : Client) (hand : Hand) : Type 0 where
   pub some : IsSome c.share
   -- its share is untouched from what it has in hand on
   pub share : IsShare v.layout v.past c.pass.0 (held c) hand.node hand.scx
+  -- of its pass's names it has all from there on
+  pub upper : IsUpperEnd v.layout c.pass.0 (held c)
   -- the SCX-records that it has taken are finished, but perhaps the one in hand
   pub over : AreFinished v.layout c.pass.0 hand.scx v.past
 
--- it does while a machine runs, except for a call of the map, which has the share and says itself
--- what is left of it
+-- it does while a machine runs, except for a call of the map, which has the share, whose upper end
+-- that is, and says itself what is left of it
 abbrev pub Holds : ClientView → Client → Run → Type 0
-Holds v c (Map m) = Unit {0}
+Holds v c (Map m) = IsUpperEnd v.layout c.pass.0 (share_of m.run)
 Holds v c run = HoldsShare v c (in_hand (held c) run)
 
 -- the edit of the map that a machine which runs has in hand, if one runs that has

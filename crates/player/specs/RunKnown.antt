@@ -2,7 +2,7 @@
 -- and what its answer says: as the machine inside.
 use Rattle.std.specs.Prelude.{◌≡◌, ℕ, Option, Some, None}
 use Rattle.histories.specs.Common.{Mode, Records, Step, History, Call, Remaining}
-use Rattle.dict.specs.Calls.{call_in, share_of, trie_in}
+use Rattle.dict.specs.Calls.{KeepsEnd, call_in, share_of, trie_in}
 use Rattle.dict.specs.DictKnown.{DictIsReady, DictWaits, DictAnswers}
 use Rattle.dict.specs.Inner.{InnerRun, Update, edit_means, inner}
 use Rattle.dict.specs.Known.{AsksFirst}
@@ -71,7 +71,7 @@ abbrev pub IsSameMachine : Run → Run → Type 0
 IsSameMachine (Llx old) (Llx now) = now.node ≡ old.node
 IsSameMachine (Scx old) (Scx now) = (now.scx.scx ≡ old.scx.scx) × (now.scx.update ≡ old.scx.update) × (now.scx.call ≡ old.scx.call) × (now.value ≡ old.value)
 IsSameMachine (Vlx old) (Vlx now) = now.snaps ≡ old.snaps
-IsSameMachine (Map old) (Map now) = (call_in now.run ≡ call_in old.run) × (now.tries ≡ old.tries) × (trie_in now.run ≡ trie_in old.run)
+IsSameMachine (Map old) (Map now) = (call_in now.run ≡ call_in old.run) × (now.tries ≡ old.tries) × (trie_in now.run ≡ trie_in old.run) × KeepsEnd old.run now.run
 IsSameMachine _ _ = ⊥
 
 -- the mode in whose scripts the machine runs

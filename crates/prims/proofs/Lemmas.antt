@@ -7,7 +7,7 @@ pub use Rattle.prims.proofs.UntakenNodes.{put_untaken_node, taken_node_since, un
 pub use Rattle.prims.proofs.PutEntries.{put_covers, put_covers_then, put_entry, put_entry_then, put_finished, put_full}
 pub use Rattle.prims.proofs.Alone.{alone_more, alone_now, moment_more, over_begins, over_ends, over_more, put_takes}
 pub use Rattle.prims.proofs.PutRows.{untaken_at}
-pub use Rattle.prims.proofs.Shares.{all_idle, all_over, free_unnamed, left_own_node, left_own_scx, next_free, next_idle, next_unwon, none_taken, own_in_hand, share_by_others, share_by_put, share_by_scx, share_by_step, share_ends, taken_share, whole_untouched, wins_in_progress}
+pub use Rattle.prims.proofs.Shares.{all_idle, all_over, ends_there, free_unnamed, left_own_node, left_own_scx, next_free, next_idle, next_unwon, none_taken, one_end, own_in_hand, same_end, share_by_others, share_by_put, share_by_scx, share_by_step, share_ends, taken_share, upper_end, whole_untouched, wins_in_progress}
 pub use Rattle.prims.proofs.Usable.{put_ready_first, usable_now, usable_since, vlx_ready_first}
 pub use Rattle.prims.proofs.Zeros.{left_zero}
 pub use Rattle.prims.proofs.Snapshots.{among}

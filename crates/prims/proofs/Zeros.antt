@@ -30,4 +30,4 @@ untaken_zero lay (r ⊳ h) c n part l own u free fill =
 
 -- so does each node that is left of a share
 pub left_zero : (lay : Layout) (h : History) (c : ℕ) (left : Remaining) (first scx n : ℕ) (part : NodeWord) → Lawful lay h → IsShare lay h c left first scx → HasNode left n → IsNodeFill part → value h (node n part) ≡ 0
-left_zero lay h c left first scx n part l x p fill = untaken_zero lay h c n part l (left_own_node lay h c left first scx n x p) (x.unmentioned n p) (x.untaken_nodes n p) fill
+left_zero lay h c left first scx n part l x p fill = let own = left_own_node lay h c left first scx n x p in untaken_zero lay h c n part l own (x.unmentioned n own p.from) (x.untaken_nodes n own p.from) fill

@@ -1,78 +1,21 @@
 -- To a node that is never in the tree or the trie no pass comes but its own. So it is with what an
 -- aborted SCX-record was to put in.
-use Rattle.std.proofs.Common.{◌≡◌, ◌≢◌, ◌<◌, ◌⊎◌, ℕ, true, false, inl, inr, sym, ◌∙◌, ap, subst, arith}
-use Rattle.histories.specs.Common.{Layout, Member, New, Plan, ScxWord, Kind, Settled, Head, node, scx, History, ◌⊳◌, Extends, HasHeld, value, state, info, child, count, count_of, member, new, field, field_index, old, descriptor, IsNamed, IsNamedScx, IsInProgress, IsOwnNode, IsTakenNode, MayFill, Obeys, Lawful, HasWon}
+use Rattle.std.proofs.Common.{◌≡◌, ◌≢◌, ◌<◌, ℕ, true, false, inl, inr, sym, ◌∙◌, ap, subst, arith}
+use Rattle.histories.specs.Common.{Layout, New, Plan, ScxWord, Kind, Settled, Head, node, scx, History, ◌⊳◌, Extends, value, state, info, child, count_of, new, IsNamed, IsNamedScx, IsOwnNode, IsTakenNode, MayFill, Obeys, Lawful}
 use Rattle.arena.proofs.Lemmas.{ends_self, ends_trans, held_since}
-use Rattle.histories.proofs.Lemmas.{About, Facts, IsScxFill, UpdateWins, aborted_never_won, facts, first_frozen, lawful_row, lawful_since, one_node_owner, scx_since, state_since, update_flagged, update_in_progress, update_is_first}
+use Rattle.histories.proofs.Lemmas.{IsScxFill, aborted_never_won, lawful_row, one_node_owner, state_since}
 use Rattle.ordered_map.specs.Paths.{WasInTree}
 use Rattle.ordered_map.specs.Runs.{IsMapRun}
 use Rattle.ordered_map.specs.TreeWords.{is_leaf}
-use Rattle.ordered_map.proofs.Lemmas.{wins_of}
 use Rattle.ordered_map.proofs.MapLemmas.{run_since}
-use Rattle.touching.specs.Kinds.{IsInTree}
-use Rattle.touching.specs.Touches.{HasReached, TouchesNode, was_so, covered, own_node}
-use Rattle.touching.proofs.Lemmas.{HasBegunEdit, HasWonAt, IsMadeAt, IsPending, begun_edit, below_named, index_now, leaf_then, new_facts, new_named, reached_there, was_since, won_at, word_then}
+use Rattle.touching.specs.Touches.{TouchesNode, was_so, covered, own_node}
+use Rattle.touching.proofs.Lemmas.{HasBegunEdit, IsMadeAt, IsPending, begun_edit, below_named, is_was, leaf_then, new_facts, new_named, reached_stood, was_since, word_then}
 use Rattle.resting.specs.Dead.{IsOfAborted, IsToBePutIn}
 use Rattle.resting.specs.Reach.{IsOutOfReach}
 use Rattle.resting.specs.Records.{record_of, the_node, the_scx}
 use Rattle.resting.specs.Rests.{HaveRestedAt, past_node, past_scx}
 use Rattle.resting.proofs.Rows.{taken_node_since}
 use Rattle.resting.proofs.Touched.{InTree, IsMissed, IsNotPassed, missed_out, node_not_passed, node_touched, number_of}
-
-is_was : (h : History) (n : ℕ) → IsInTree h n → WasInTree h n
-is_was h n x = record { moment = h; within = ends_self h; tree = x.tree; is_tree = x.is_tree; has = x.has }
-
--- what an SCX-record in progress has reached has been in the tree
-module _ (lay : Layout) (m : History) (s n : ℕ) (run : IsMapRun lay m) (going : IsInProgress m s) (reached : HasReached m s n) where
-  abbrev f : Facts lay m
-  f = facts lay m run.1.lawful
-
-  real : s ≢ 0
-  real e = let d = f.dummy in let w : value m (state 0) ≡ 0 = rw e at going.unfinished in omega arith
-
-  -- if it has won, just before that
-  by_win : HasWonAt m s → WasInTree m n
-  by_win y = was_since m g n within (is_was g n (reached_there lay g run_g s record { unfinished = update_in_progress fg w; named = named } (update_is_first fg w) n then))
-    where
-      g : History
-      g = y.before
-
-      within : Extends m g
-      within = ends_trans m (y.row ⊳ g) g y.within (inr (ends_self g))
-
-      run_g : IsMapRun lay g
-      run_g = run_since lay m g run within
-
-      fg : Facts lay g
-      fg = facts lay g run_g.1.lawful
-
-      w : UpdateWins g y.row s
-      w = wins_of lay g y.row s (lawful_since lay m (y.row ⊳ g) run.1.lawful y.within) y.wins
-
-      named : IsNamedScx g s
-      named = (member g s 0, (update_flagged fg w).frozen 0 (update_flagged fg w).some)
-
-      place : reached.index < count g s
-      place = subst (λ p. reached.index < count_of p) (scx_since lay m g s run.1.lawful within real named Plan tt) reached.within
-
-      then : HasReached g s n
-      then = record { index = reached.index; within = place; is = sym (scx_since lay m g s run.1.lawful within real named (Member reached.index) tt) ∙ reached.is; earlier = λ i few. (update_flagged fg w).frozen i (omega (arith, few, place)) }
-
-  pub reached_stood : WasInTree m n
-  reached_stood = go (about.steady (inr (held, going.unfinished)))
-    where
-      first : HasHeld m (info (member m s 0)) s
-      first = first_frozen m s going.named.0 going.named.1 (f.cell s going.named.0 real going.named.1)
-
-      about : About lay (descriptor m s) m s
-      about = f.about s (member m s 0) real first
-
-      held : HasHeld m (info (member m s (field_index m s))) s
-      held = subst (λ i. HasHeld m (info (member m s i)) s) (sym (index_now lay m run s going)) first
-
-      go : (value m (field m s) ≡ old m s) ⊎ HasWon m s → WasInTree m n
-      go (inl e) = is_was m n (reached_there lay m run s going (λ x. about.moved x e) n reached)
-      go (inr x) = by_win (won_at m s x)
 
 -- The SCX-record s, which had begun, is aborted at t.
 module _ (lay : Layout) (t : History) (s n : ℕ) (run : IsMapRun lay t) (its_real : s ≢ 0) (named : IsNamedScx t s) (aborted : value t (state s) ≡ 2) (put_in : IsToBePutIn t s n) where

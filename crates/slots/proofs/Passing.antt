@@ -7,6 +7,7 @@ use Rattle.ordered_map.specs.Paths.{WasInTree}
 use Rattle.ordered_map.specs.Runs.{IsMapRun}
 use Rattle.ordered_map.proofs.MapLemmas.{run_since}
 use Rattle.prims.specs.Moments.{AreFinished}
+use Rattle.touching.proofs.Lemmas.{never_stood}
 use Rattle.resting.specs.Dead.{IsUnborn, IsUnnamedScx}
 use Rattle.resting.specs.Reach.{IsOutOfReach}
 use Rattle.resting.specs.Records.{Record, record_of, the_node, the_scx}
@@ -19,7 +20,6 @@ use Rattle.slots.specs.Window.{AreBeside, HasPassedOver, IsWindow}
 use Rattle.slots.proofs.Counts.{moves_now, rest_same, rests_now}
 use Rattle.slots.proofs.Slots.{record_discrete, untaken_more}
 use Rattle.slots.proofs.Untaken.{untaken_own}
-use Rattle.slots.proofs.Zeros.{never_stood}
 
 -- they leave the words of held records
 value_kept : (t : Lasting) (held : Held) (h k : History) (w : Word) → Extends k h → IsHeld t held (record_of w) → AreBeside t held h k → value k w ≡ value h w

@@ -1,5 +1,5 @@
 -- No two words of a table have one place, and each has one of the table's.
-use Rattle.std.proofs.Common.{◌≡◌, ℕ, ◌+◌, ◌*◌, ◌<◌, ◌≤◌, refl, sym, ◌∙◌, arith}
+use Rattle.std.proofs.Common.{◌≡◌, ℕ, ◌+◌, ◌*◌, ◌<◌, refl, sym, ◌∙◌, arith}
 use Rattle.arena.specs.Opening.{node_size}
 use Rattle.arena.specs.Words.{node_place, scx_place, IsScxWord}
 use Rattle.arena.specs.declared.limits.Mode.{Mode}

@@ -1,48 +1,21 @@
 -- In a run of a map all words of an untaken record are 0.
-use Rattle.std.proofs.Common.{◌≡◌, ◌≢◌, ◌<◌, ◌≤◌, ◌⊎◌, ℕ, inl, inr, ⊎_elim, refl, sym, ◌∙◌, ap, subst, arith}
+use Rattle.std.proofs.Common.{◌≡◌, ◌≢◌, ◌<◌, ◌≤◌, ◌⊎◌, ℕ, inl, inr, refl, sym, ◌∙◌, ap, subst, arith}
 use native.Mathlib.Decide.{ℕ_discrete}
-use Rattle.histories.specs.Common.{Layout, Row, Side, NodeWord, SettledPart, Settled, Head, Child, Info, Marked, Word, Node, Scx, ScxWord, State, AllFrozen, Plan, New, Old, Member, Seen, History, Opened, ◌⊳◌, HasHeld, opening_nodes, node, scx, info, marked, child, state, value, plan, count, count_of, member, field, field_index, side_of, Fill, IsTakenNode, IsTakenScx, Lawful}
+use Rattle.histories.specs.Common.{Layout, Row, Side, NodeWord, Settled, Child, Info, Marked, Word, Node, Scx, ScxWord, State, AllFrozen, Plan, New, Old, Member, Seen, History, Opened, ◌⊳◌, HasHeld, opening_nodes, node, scx, info, marked, child, state, value, plan, count, count_of, member, field, field_index, side_of, Fill, IsTakenNode, IsTakenScx, Lawful}
 use Rattle.arena.specs.declared.word.ScxWord.TheVariants.{Call}
 use Rattle.arena.proofs.Lemmas.{ends_self, fill_takes_node, fill_takes_scx, held_at, held_more, held_now, held_split, held_start, node_apart, node_word_apart, opening_info, opening_scx, taken_node_more, taken_scx_more, value_apart, value_quiet}
 use Rattle.histories.specs.Finalizing.{IsFinalizing}
-use Rattle.histories.proofs.Lemmas.{Change, Facts, FreezeWins, IsScxFill, UpdateWins, aborts, change, commits, facts, fills_node, fills_scx, finished_taken, freeze_in_progress, freeze_keeps_scx, freeze_stores, freezes, lawful_row, lawful_since, lawful_tail, marks, not_state, nothing, planned_taken, sets_frozen, some_is_real, some_open, start_nodes, update_about, update_flagged, updates, value_start}
+use Rattle.histories.proofs.Lemmas.{Change, Facts, FreezeWins, IsScxFill, UpdateWins, aborts, change, commits, facts, fills_node, fills_scx, finished_taken, freeze_in_progress, freeze_keeps_scx, freeze_stores, freezes, lawful_row, lawful_tail, marks, not_state, nothing, planned_taken, sets_frozen, some_is_real, start_nodes, update_about, update_flagged, updates, value_start}
 use Rattle.ordered_map.specs.Paths.{WasInTree}
 use Rattle.ordered_map.specs.Runs.{IsMapRun}
-use Rattle.ordered_map.specs.TreeWords.{Tree, Leaf, Fork, root, Shows, Has, level}
 use Rattle.ordered_map.proofs.MapLemmas.{run_since}
 use Rattle.prims.specs.Laws.Linked.{marker_named}
-use Rattle.prims.specs.Laws.Unfilled.{node_unfilled, words_unfilled}
+use Rattle.prims.specs.Laws.Unfilled.{words_unfilled}
+use Rattle.touching.proofs.Lemmas.{never_stood, reached_stood, settled_zero}
 use Rattle.resting.specs.Records.{record_of}
-use Rattle.resting.proofs.Lemmas.{reached_stood, taken_node_since}
 use Rattle.slots.specs.Lasting.{IsUntaken}
 
 -- Nodes
-
--- settled words are filled, by no other rows
-settled_zero : (lay : Layout) (h : History) (n : ℕ) (part : SettledPart) → Lawful lay h → opening_nodes lay ≤ n → ¬ IsTakenNode h n → value h (node n (Settled part)) ≡ 0
-settled_zero lay (Opened o) n part l late free = value_start o (node n (Settled part)) ∙ o.beyond n (Settled part) (let few = start_nodes lay o l in omega (arith, few, late))
-settled_zero lay (r ⊳ h) n part l late free =
-    node_unfilled lay h r n (Settled part) l (λ q x. free (fill_takes_node r h n q x.kind x.word)) tt (λ side e. absurd (let z : Settled part ≡ Child side = e in cc))
-    ∙ settled_zero lay h n part (lawful_tail lay h r l) late (λ t. free (taken_node_more r h n t))
-
--- all nodes of a tree but its root have a level above 0
-some_level : (f : Word → ℕ) (t : Tree) (lo hi n : ℕ) → Shows f lo hi t → Has t n → (n ≡ root t) ⊎ (0 < level f n)
-some_level f (Leaf m) lo hi n s e = inl (sym e)
-some_level f (Fork m a b) lo hi n s (inl e) = inl (sym e)
-some_level f (Fork m a b) lo hi n s (inr (inl x)) = ⊎_elim (λ e. inr (let low = s.0.low in let same : level f n ≡ level f (root a) = ap (level f) e in omega (arith, low, same))) inr (some_level f a lo _ n s.1 x)
-some_level f (Fork m a b) lo hi n s (inr (inr x)) = ⊎_elim (λ e. inr (let high = s.0.high in let same : level f n ≡ level f (root b) = ap (level f) e in omega (arith, high, same))) inr (some_level f b _ hi n s.2 x)
-
--- so an untaken node was never in the tree
-module _ (lay : Layout) (h : History) (n : ℕ) (run : IsMapRun lay h) (late : opening_nodes lay ≤ n) (free : ¬ IsTakenNode h n) where
-  pub never_stood : ¬ WasInTree h n
-  never_stood x = go (some_level (value x.moment) x.tree _ _ n x.is_tree.shows x.has)
-    where
-      head : value x.moment (node n (Settled Head)) ≡ 0
-      head = settled_zero lay x.moment n Head (lawful_since lay h x.moment run.1.lawful x.within) late (λ t. free (taken_node_since h x.moment n x.within t))
-
-      go : (n ≡ root x.tree) ⊎ (0 < level (value x.moment) n) → ⊥
-      go (inl e) = let some = some_open lay in let zero : n ≡ 0 = e ∙ x.is_tree.is in omega (arith, some, zero, late)
-      go (inr i) = let none : level (value x.moment) n ≡ 0 = rw head refl in omega (arith, i, none)
 
 -- a node that an SCX-record freezes was in the tree
 frozen_stood : (lay : Layout) (h : History) (r : Row) (s j : ℕ) → IsMapRun lay (r ⊳ h) → FreezeWins lay h r s j → WasInTree (r ⊳ h) (member h s j)

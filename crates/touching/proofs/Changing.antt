@@ -1,5 +1,5 @@
 -- VLX comes to the infos of the nodes of its snapshots, and SCX to its own SCX-record besides.
-use Rattle.std.proofs.Common.{◌≡◌, ◌<◌, ℕ, List, length, sym, ◌∙◌, ap, subst}
+use Rattle.std.proofs.Common.{◌≡◌, ◌<◌, ℕ, inl, List, length, sym, ◌∙◌, ap, subst}
 use Rattle.histories.specs.Common.{Layout, Step, ScxNo, History, Extends, count, count_of, IsTakenScx, IsRun, Call, begun_at}
 use Rattle.arena.proofs.Lemmas.{ends_self}
 use Rattle.prims.specs.Scx.Known.{Job, job_of, FillWaits, HasFilled, ScxWaitsAt, ScxWaits}
@@ -8,12 +8,13 @@ use Rattle.prims.specs.declared.snap.Snap.{Snap}
 use Rattle.prims.specs.declared.scx.ScxRun.{ScxRun}
 use Rattle.prims.specs.declared.scx.ScxAt.{ScxAt}
 use Rattle.prims.specs.declared.scx.ScxAt.TheVariants.{Start, Plan as AtPlan, New as AtNew, Old as AtOld, Member as AtMember, Seen as AtSeen, Call as AtCall, Help}
-use Rattle.touching.specs.Touches.{WasSo, was_so, own_scx, Touches, WereSo, MayBeHelped, own}
+use Rattle.touching.specs.Touches.{WasSo, own_scx, Touches, WereSo, MayBeHelped, own}
+use Rattle.touching.proofs.Finding.{FillsOrFinds, Finds, found_so, found_touched}
 use Rattle.touching.proofs.Moments.{taken_scx_since}
 use Rattle.touching.proofs.Helping.{help_touches}
 
-pub vlx_in_call : (P : Layout → History → ℕ → Type 0) (snaps : List Snap) (n : ℕ) (c : Call) (begin h : History) (s : Step) → VlxWaits snaps n (begun_at c begin) h s → WereSo P c h snaps → Touches P c h s.word
-vlx_in_call P snaps n c begin h s w so = rw w.asked (was_so (so w.index w.looks.within))
+pub vlx_in_call : (P : Layout → History → ℕ → Type 0) (snaps : List Snap) (n : ℕ) (c : Call) (begin h : History) (s : Step) → VlxWaits snaps n (begun_at c begin) h s → WereSo P c h snaps → Finds P c h s.word
+vlx_in_call P snaps n c begin h s w so = rw w.asked (found_so (so w.index w.looks.within))
 
 -- the SCX may be a part of a call, and have begun at `begin`
 module _ (P : Layout → History → ℕ → Type 0) (allows : Layout → History → ℕ → Type 0) (c : Call) (begin h : History) (run : IsRun allows c.layout h) (since : Extends begin c.start) (m : Job) where
@@ -21,8 +22,11 @@ module _ (P : Layout → History → ℕ → Type 0) (allows : Layout → Histor
   pub untaken : (s : ℕ) → ¬ IsTakenScx begin s → ¬ IsTakenScx c.start s
   untaken s free t = free (taken_scx_since begin c.start s since t)
 
-  pub fill_at : (at : ScxAt) (s : Step) → FillWaits allows (begun_at c begin) h m at s → Touches P c h s.word
+  fill_at : (at : ScxAt) (s : Step) → FillWaits allows (begun_at c begin) h m at s → Touches P c h s.word
   fill_at at s k = rw k.asked (own_scx k.fills.hand.is_open.own (untaken m.scx.0 k.fills.way.free))
+
+  pub fills_at : (at : ScxAt) (s : Step) → FillWaits allows (begun_at c begin) h m at s → FillsOrFinds P c h s
+  fills_at at s k = inl (ap (λ (q : Step). q.kind) k.asked, fill_at at s k)
 
   -- and covers the nodes of its snapshots
   own_helped : (so : WereSo P c h m.update.snaps) → HasFilled (begun_at c begin) h m.scx.0 m.call m.update → MayBeHelped P c h m.scx.0
@@ -59,7 +63,7 @@ pub scx_begun : (allows : Layout → History → ℕ → Type 0) (c : Call) (beg
 scx_begun allows c begin h m s w = scx_since_begin allows (begun_at c begin) h (job_of m) m.at s w
 
 pub vlx_touches : (P : Layout → History → ℕ → Type 0) (snaps : List Snap) (n : ℕ) (c : Call) (h : History) (s : Step) → VlxWaits snaps n c h s → WereSo P c h snaps → Touches P c h s.word
-vlx_touches P snaps n c h s w so = vlx_in_call P snaps n c c.start h s w so
+vlx_touches P snaps n c h s w so = found_touched P c h s.word (vlx_in_call P snaps n c c.start h s w so)
 
 pub scx_touches : (P : Layout → History → ℕ → Type 0) (allows : Layout → History → ℕ → Type 0) (m : ScxRun) (c : Call) (h : History) (s : Step) → IsRun allows c.layout h → ScxWaits allows m c h s → WereSo P c h m.update.snaps → Touches P c h s.word
 scx_touches P allows m c h s run w so = scx_in_call P allows c c.start h m s run (ends_self c.start) w so

@@ -1,5 +1,5 @@
--- What an update touches, if what its edit looks at was there.
-use Rattle.std.proofs.Common.{◌<◌, ℕ, inl, inr, sym, subst}
+-- What an update fills or finds, if what its edit looks at was there.
+use Rattle.std.proofs.Common.{◌<◌, ℕ, inl, inr, sym, ap, subst}
 use Rattle.histories.specs.Common.{Step, NodeNo, SettledPart, History, Extends, Call, begun_at}
 use Rattle.arena.proofs.Lemmas.{ends_trans}
 use Rattle.prims.proofs.Lemmas.{taken_node_since}
@@ -18,9 +18,10 @@ use Rattle.edits.specs.Edits.{EditMeaning}
 use Rattle.edits.specs.Known.{Looks, Reads, Scxs, UpdateWaitsAt, UpdateWaits}
 use Rattle.edits.specs.Pieces.{nth_node}
 use Rattle.touching.specs.Reads.{IsLookedAt, ReadsSeen}
-use Rattle.touching.specs.Touches.{Touches, own_node, was_so}
+use Rattle.touching.specs.Touches.{own_node}
 use Rattle.touching.proofs.Changing.{scx_begun}
 use Rattle.touching.proofs.EditLooks.{LooksThere, snapped_there}
+use Rattle.touching.proofs.Finding.{FillsOrFinds, found_so}
 use Rattle.touching.proofs.Looking.{llx_in_call}
 use Rattle.touching.proofs.Moments.{been_wider}
 use Rattle.touching.proofs.OwnScx.{InTree, WereSnapped, scx_there}
@@ -52,16 +53,16 @@ module _ {E : Type 0} (e : EditMeaning E) (there : LooksThere e) (seen : ReadsSe
   snapped : (f : Found) (scx : ScxRun) (b : History) → Scxs e m try h f scx b → WereSnapped c b scx.update.snaps
   snapped f scx b x i p = let u = x.usable i p in record { moment = u.moment; within = u.within; since = ends_trans u.moment begin c.start u.since since; stood = u.stood; is = u.is }
 
-  there_at : (at : UpdateAt) (s : Step) → UpdateWaitsAt e m try h s at → Touches InTree c h s.word
+  there_at : (at : UpdateAt) (s : Step) → UpdateWaitsAt e m try h s at → FillsOrFinds InTree c h s
   there_at Start s k = absurd k
-  there_at (Walk walk) s k = walk_in_call InTree in_tree_kind c begin h k.1.run walk (ends_trans h begin c.start k.1.since since) s (λ past. since) k.1
+  there_at (Walk walk) s k = inr (walk_in_call InTree in_tree_kind c begin h k.1.run walk (ends_trans h begin c.start k.1.since since) s (λ past. since) k.1)
   there_at (Guard walk head llx) s k =
       let x = k.1 in
-      llx_in_call InTree TreeAllows c k.0 h llx s x.run.1 (ends_trans k.0 begin c.start x.since since) k.2 (subst (WasThere c h) (sym x.is_two) (two_there c h x.run (ends_trans h begin c.start x.now since)))
-  there_at (Look f llx) s k = llx_in_call InTree TreeAllows c k.0 h llx s k.1.run.1 (ends_trans k.0 begin c.start k.1.since since) k.2 (in_call llx.node.0 (looked_there e there seen m try h f llx k.0 k.1))
-  there_at (Read f n part) s k = rw k.1 (was_so (in_call n.0 (read_there e there seen m try h f n part k.0)))
-  there_at (Fill f nth part) s k = rw k.3 (own_node (k.0.full.hand.own (nth_node m.nodes nth).0 k.0.hand.lowest k.0.hand.highest) (λ t. k.0.works.untaken nth k.0.works.need (taken_node_since begin c.start (nth_node m.nodes nth).0 since t)))
+      inr (llx_in_call InTree TreeAllows c k.0 h llx s x.run.1 (ends_trans k.0 begin c.start x.since since) k.2 (subst (WasThere c h) (sym x.is_two) (two_there c h x.run (ends_trans h begin c.start x.now since))))
+  there_at (Look f llx) s k = inr (llx_in_call InTree TreeAllows c k.0 h llx s k.1.run.1 (ends_trans k.0 begin c.start k.1.since since) k.2 (in_call llx.node.0 (looked_there e there seen m try h f llx k.0 k.1)))
+  there_at (Read f n part) s k = inr (rw k.1 (found_so (in_call n.0 (read_there e there seen m try h f n part k.0))))
+  there_at (Fill f nth part) s k = inl (ap (λ (q : Step). q.kind) k.3, rw k.3 (own_node (k.0.full.hand.own (nth_node m.nodes nth).0 k.0.hand.lowest k.0.hand.highest) (λ t. k.0.works.untaken nth k.0.works.need (taken_node_since begin c.start (nth_node m.nodes nth).0 since t))))
   there_at (Scx f scx) s k = scx_there c k.0 h k.1.run (ends_trans k.0 begin c.start k.1.since since) (scx_begun TreeAllows c k.0 h scx s k.2) (job_of scx) (snapped f scx k.0 k.1) scx.at s k.2
 
-pub update_there : {E : Type 0} (e : EditMeaning E) → LooksThere e → ReadsSeen e → (m : UpdateRun E UpdateAt) (c : Call) (h : History) (s : Step) → UpdateWaits e m c h s → Touches InTree c h s.word
+pub update_there : {E : Type 0} (e : EditMeaning E) → LooksThere e → ReadsSeen e → (m : UpdateRun E UpdateAt) (c : Call) (h : History) (s : Step) → UpdateWaits e m c h s → FillsOrFinds InTree c h s
 update_there e there seen m c h s w = there_at e there seen m c w.0 h (try_since e m c w.0 h m.at w.1) m.at s w.3

@@ -9,3 +9,5 @@ pub use Rattle.touching.proofs.Left.{HasWonAt, left_scx, left_since, left_untouc
 pub use Rattle.touching.proofs.Begun.{HasBegunEdit, begun_edit, below_named, leaf_then, new_named, word_then}
 pub use Rattle.touching.proofs.Leaving.{IsMadeAt, IsPending, IsPutIn, new_facts, put_or_stood, was_since}
 pub use Rattle.touching.proofs.Reaching.{index_now, reached_there}
+pub use Rattle.touching.proofs.Stood.{is_was, reached_stood}
+pub use Rattle.touching.proofs.Untaken.{IsOwnWord, never_stood, own_touched, row_fills, settled_zero}

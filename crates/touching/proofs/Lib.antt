@@ -1,6 +1,7 @@
 mod Moments
 mod Present
 mod Walks
+mod Finding
 mod Helping
 mod Looking
 mod Changing
@@ -22,4 +23,6 @@ mod Leaving
 mod Reached
 mod Reaching
 mod Left
+mod Stood
+mod Untaken
 pub mod Lemmas

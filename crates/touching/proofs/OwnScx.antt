@@ -1,15 +1,15 @@
--- An SCX of an edit of a map comes to its own SCX-record, and to nodes that were in the tree, or in
--- the trie, at a moment of the call, or that an SCX-record covers that was in progress at one.
+-- An SCX of an edit of a map fills its own SCX-record, and then finds that, and nodes that were in
+-- the tree, or in the trie, at a moment of the call, or that an SCX-record covers that was in
+-- progress at one.
 use Rattle.std.proofs.Common.{◌≡◌, ◌≢◌, ◌<◌, ℕ, false, List, inl, inr, ⊎_elim, length, refl, sym, ◌∙◌, ap, subst, arith}
 use native.Mathlib.Decide.{ℕ_discrete}
-use Rattle.histories.specs.Common.{Layout, Step, ScxNo, AllFrozen, State, member_index, History, Opened, ◌⊳◌, Extends, value, info, state, count, count_of, field_index, member, scx, seen, AreFrozen, IsNamedScx, IsTakenScx, IsInProgress, Lawful, Call, begun_at}
+use Rattle.histories.specs.Common.{Layout, Step, ScxNo, State, History, Opened, ◌⊳◌, Extends, value, info, state, count, count_of, member, seen, AreFrozen, IsNamedScx, IsTakenScx, IsInProgress, Lawful, Call, begun_at}
 use Rattle.arena.proofs.Lemmas.{ends_self, ends_trans, held_back}
-use Rattle.histories.proofs.Lemmas.{Effect, Facts, FreezeWins, effect, facts_before, freeze, freeze_held, freeze_in_progress, freeze_keeps_scx, lawful_since, lawful_tail, named_scx_taken, quiet, update, update_held}
+use Rattle.histories.proofs.Lemmas.{Effect, Facts, FreezeWins, effect, facts_before, freeze, freeze_held, freeze_in_progress, freeze_keeps_scx, lawful_since, lawful_tail, named_scx_taken, planned_taken, quiet, update, update_held}
 use Rattle.help.specs.Allowed.{IsPrepared}
-use Rattle.help.specs.Help.Known.{Freezes, HelpKnows, IsServed, Reading, reading, help_step}
+use Rattle.help.specs.Help.Known.{HelpKnows, IsServed, Reading, reading, help_step}
 use Rattle.help.specs.Laws.Help.Allowing.{later_self}
 use Rattle.help.specs.declared.state.HelpAt.{HelpAt}
-use Rattle.help.specs.declared.state.HelpAt.TheVariants.{Start, Plan as AtPlan, Member as AtMember, Seen as AtSeen, Freeze as AtFreeze, AllFrozen as AtAllFrozen, Abort as AtAbort, SetFrozen as AtSetFrozen, Mark as AtMark, New as AtNew, Old as AtOld, Update as AtUpdate, Commit as AtCommit}
 use Rattle.ordered_map.specs.Runs.{IsMapRun}
 use Rattle.ordered_map.specs.TreeShape.{TreeAllows}
 use Rattle.ordered_map.specs.TreeWords.{is_leaf}
@@ -23,9 +23,10 @@ use Rattle.prims.specs.declared.snap.Snap.{Snap}
 use Rattle.prims.specs.declared.scx.ScxAt.{ScxAt}
 use Rattle.prims.specs.declared.scx.ScxAt.TheVariants as at_scx
 use Rattle.touching.specs.Kinds.{IsInTree}
-use Rattle.touching.specs.Touches.{Touches, TouchesNode, TouchesScx, WasInProgress, covered, own_scx, running, was_so}
-use Rattle.touching.proofs.Changing.{fill_at, untaken}
-use Rattle.touching.proofs.Helping.{all_frozen, field_within, helped_member}
+use Rattle.touching.specs.Touches.{WasInProgress}
+use Rattle.touching.proofs.Changing.{fills_at, untaken}
+use Rattle.touching.proofs.Finding.{FillsOrFinds, Finds, FindsNode, FindsScx, found_covered, found_filled, found_so}
+use Rattle.touching.proofs.Helping.{help_at, running_member}
 use Rattle.touching.proofs.Moments.{been_wider}
 use Rattle.touching.proofs.Reached.{info_reached}
 use Rattle.touching.proofs.Standing.{fork_now, fork_then}
@@ -80,8 +81,8 @@ module _ (c : Call) (b h : History) (run : IsMapRun c.layout h) (since : Extends
     few = ap count_of filled.planned ∙ filled.over.count
 
     -- once it is named, it was in progress in the call
-    member_touched : IsNamedScx h s → (j : ℕ) → j < count h s → AreFrozen h s j → TouchesNode InTree c h (member h s j)
-    member_touched named j i frozen = helped_member InTree c h run.1.lawful s j i frozen (running in_call)
+    member_found : IsNamedScx h s → (j : ℕ) → j < count h s → AreFrozen h s j → FindsNode InTree c h (member h s j)
+    member_found named j i frozen = running_member InTree c h run.1.lawful s j i frozen in_call
       where
         start : Extends h c.start
         start = ends_trans h b c.start later since
@@ -109,8 +110,8 @@ module _ (c : Call) (b h : History) (run : IsMapRun c.layout h) (since : Extends
       seen_is : seen h s 0 ≡ first_snap.scx.0
       seen_is = filled.found 0 in_list
 
-      by_fork : is_leaf (value h) (member h s 0) ≡ false → TouchesNode InTree c h first_snap.node.0
-      by_fork fork = was_so record {
+      by_fork : is_leaf (value h) (member h s 0) ≡ false → FindsNode InTree c h first_snap.node.0
+      by_fork fork = found_so record {
         moment = u.moment;
         within = here;
         since = u.since;
@@ -118,64 +119,44 @@ module _ (c : Call) (b h : History) (run : IsMapRun c.layout h) (since : Extends
             (fork_then c.layout h u.moment first_snap.node.0 run here u.stood (subst (λ n. is_leaf (value h) n ≡ false) node_is fork));
       }
 
-      by_allowed : TreeAllows c.layout h s → TouchesNode InTree c h first_snap.node.0
+      by_allowed : TreeAllows c.layout h s → FindsNode InTree c h first_snap.node.0
       by_allowed (inl e) = by_fork e.1.fork
       by_allowed (inr p) = absurd (real p.dummy)
 
-      by_change : value h (info first_snap.node.0) ≢ value u.moment (info first_snap.node.0) → TouchesNode InTree c h first_snap.node.0
+      by_change : value h (info first_snap.node.0) ≢ value u.moment (info first_snap.node.0) → FindsNode InTree c h first_snap.node.0
       by_change d =
-          covered (value h (info first_snap.node.0)) (been_wider h u.moment c.start _ u.since (info_reached c.layout h u.moment first_snap.node.0 run.1.lawful here d))
+          found_covered (value h (info first_snap.node.0)) (been_wider h u.moment c.start _ u.since (info_reached c.layout h u.moment first_snap.node.0 run.1.lawful here d))
 
-      first_touched : TouchesNode InTree c h (member h s 0)
-      first_touched = subst (TouchesNode InTree c h) (sym node_is) (go (ℕ_discrete (value h (info (member h s 0))) (seen h s 0)))
+      first_found : FindsNode InTree c h (member h s 0)
+      first_found = subst (FindsNode InTree c h) (sym node_is) (go (ℕ_discrete (value h (info (member h s 0))) (seen h s 0)))
         where
-          go : Dec (value h (info (member h s 0)) ≡ seen h s 0) → TouchesNode InTree c h first_snap.node.0
+          go : Dec (value h (info (member h s 0)) ≡ seen h s 0) → FindsNode InTree c h first_snap.node.0
           go (yes q) = by_allowed (ready.allowed h (later_self c.pass s h) run.1 refl ready.begins q)
           go (no d) = by_change (λ q. d (ap (λ n. value h (info n)) node_is ∙ q ∙ u.is.info ∙ sym seen_is))
 
+    -- so far it has filled it
+    own_word : FindsScx InTree c h s
+    own_word = found_filled filled.own free (planned_taken c.layout h s run.1.lawful (subst (λ p. 0 < count_of p) (sym filled.planned) filled.over.planned.some))
+
+    own_member : (j : ℕ) → IsServed TreeAllows c.layout c.pass h s → j < count h s → AreFrozen h s j → FindsNode InTree c h (member h s j)
+    own_member j served within frozen = go served (ℕ_discrete j 0)
+      where
+        go : IsServed TreeAllows c.layout c.pass h s → Dec (j ≡ 0) → FindsNode InTree c h (member h s j)
+        go (inl started) _ = member_found started.named j within frozen
+        go (inr ready) (yes e) = subst (λ i. FindsNode InTree c h (member h s i)) (sym e) (first_found (omega (arith, within)) ready)
+        go (inr ready) (no d) = member_found (member h s 0, frozen 0 (omega (arith, d))) j within frozen
+
     -- HELP of it
-    module _ (r : Reading) (is : r.scx ≡ s) where
-      own_word : TouchesScx InTree c h r.scx
-      own_word = subst (TouchesScx InTree c h) (sym is) (own_scx filled.own free)
+    help_there : (r : Reading) → r.scx ≡ s → (at : HelpAt) → HelpKnows TreeAllows c.layout c.pass h r at → Finds InTree c h (help_step h r.scx at).word
+    help_there r is = help_at c.layout h run.1.lawful r TreeAllows c.pass (Finds InTree c h) (λ part. subst (FindsScx InTree c h) (sym is) own_word)
+        (λ j part. subst (λ v. IsServed TreeAllows c.layout c.pass h v → j < count h v → AreFrozen h v j → FindsNode InTree c h (member h v j)) (sym is) (own_member j))
 
-      by_name : IsNamedScx h r.scx → (j : ℕ) → j < count h r.scx → AreFrozen h r.scx j → TouchesNode InTree c h (member h r.scx j)
-      by_name = subst (λ v. IsNamedScx h v → (j : ℕ) → j < count h v → AreFrozen h v j → TouchesNode InTree c h (member h v j)) (sym is) member_touched
-
-      by_flag : IsNamedScx h r.scx → value h (scx r.scx AllFrozen) ≡ 1 → (j : ℕ) → j < count h r.scx → TouchesNode InTree c h (member h r.scx j)
-      by_flag named flag j i = by_name named j i (all_frozen InTree c h run.1.lawful r.scx flag j i)
-
-      by_ready : 0 < count h r.scx → IsPrepared TreeAllows c.layout c.pass h r.scx → TouchesNode InTree c h (member h r.scx 0)
-      by_ready = subst (λ v. 0 < count h v → IsPrepared TreeAllows c.layout c.pass h v → TouchesNode InTree c h (member h v 0)) (sym is) first_touched
-
-      frozen_at : (j k : ℕ) → Freezes TreeAllows c.layout c.pass h r j k → TouchesNode InTree c h (member h r.scx j)
-      frozen_at j k x = go x.served (ℕ_discrete j 0)
-        where
-          go : IsServed TreeAllows c.layout c.pass h r.scx → Dec (j ≡ 0) → TouchesNode InTree c h (member h r.scx j)
-          go (inl started) _ = by_name started.named j x.within x.frozen
-          go (inr ready) (yes e) = let i = x.within in subst (λ i. TouchesNode InTree c h (member h r.scx i)) (sym e) (by_ready (omega (arith, i)) ready)
-          go (inr ready) (no d) = by_name (member h r.scx 0, x.frozen 0 (omega (arith, d))) j x.within x.frozen
-
-      help_there : (at : HelpAt) → HelpKnows TreeAllows c.layout c.pass h r at → Touches InTree c h (help_step h r.scx at).word
-      help_there Start k = absurd k
-      help_there AtPlan k = own_word
-      help_there (AtMember j) k = own_word
-      help_there (AtSeen j) k = own_word
-      help_there (AtFreeze j v) k = frozen_at (member_index j) _ k.0
-      help_there (AtAllFrozen j v) k = own_word
-      help_there (AtAbort j v) k = own_word
-      help_there AtSetFrozen k = own_word
-      help_there (AtMark j) k = by_flag k.0.started.named k.0.flag (member_index j) k.1
-      help_there AtNew k = own_word
-      help_there (AtOld v) k = own_word
-      help_there AtUpdate k = by_flag k.started.named k.flag (field_index h r.scx) (field_within InTree c h run.1.lawful r.scx r refl k)
-      help_there AtCommit k = own_word
-
-  pub scx_there : (at : ScxAt) (s : Step) → ScxWaitsAt TreeAllows (begun_at c b) h m at s → Touches InTree c h s.word
+  pub scx_there : (at : ScxAt) (s : Step) → ScxWaitsAt TreeAllows (begun_at c b) h m at s → FillsOrFinds InTree c h s
   scx_there at_scx.Start s k = absurd k
-  scx_there at_scx.Plan s k = fill_at InTree TreeAllows c b h run.1 since m at_scx.Plan s k
-  scx_there at_scx.New s k = fill_at InTree TreeAllows c b h run.1 since m at_scx.New s k
-  scx_there at_scx.Old s k = fill_at InTree TreeAllows c b h run.1 since m at_scx.Old s k
-  scx_there (at_scx.Member j) s k = fill_at InTree TreeAllows c b h run.1 since m (at_scx.Member j) s k
-  scx_there (at_scx.Seen j) s k = fill_at InTree TreeAllows c b h run.1 since m (at_scx.Seen j) s k
-  scx_there at_scx.Call s k = fill_at InTree TreeAllows c b h run.1 since m at_scx.Call s k
-  scx_there (at_scx.Help help) s k = rw k.0.asked (help_there m.scx.0 k.2 (reading help) (ap (λ (n : ScxNo). n.0) k.1) help.at k.0.known)
+  scx_there at_scx.Plan s k = fills_at InTree TreeAllows c b h run.1 since m at_scx.Plan s k
+  scx_there at_scx.New s k = fills_at InTree TreeAllows c b h run.1 since m at_scx.New s k
+  scx_there at_scx.Old s k = fills_at InTree TreeAllows c b h run.1 since m at_scx.Old s k
+  scx_there (at_scx.Member j) s k = fills_at InTree TreeAllows c b h run.1 since m (at_scx.Member j) s k
+  scx_there (at_scx.Seen j) s k = fills_at InTree TreeAllows c b h run.1 since m (at_scx.Seen j) s k
+  scx_there at_scx.Call s k = fills_at InTree TreeAllows c b h run.1 since m at_scx.Call s k
+  scx_there (at_scx.Help help) s k = inr (rw k.0.asked (help_there m.scx.0 k.2 (reading help) (ap (λ (n : ScxNo). n.0) k.1) help.at k.0.known))

@@ -1,4 +1,4 @@
--- What an ordered read touches.
+-- What an ordered read finds.
 use Rattle.std.proofs.Common.{ℕ}
 use Rattle.histories.specs.Common.{Step, History, Extends, Call, begun_at}
 use Rattle.arena.proofs.Lemmas.{ends_trans}
@@ -17,7 +17,8 @@ use Rattle.order.specs.declared.load.ReadLoad.TheVariants as loads
 use Rattle.order.specs.declared.run.ReadAt.{ReadAt}
 use Rattle.order.specs.declared.run.ReadAt.TheVariants.{Start, Walk, Root, Load, Look, Validate}
 use Rattle.order.specs.declared.run.ReadRun.{ReadRun}
-use Rattle.touching.specs.Touches.{was_so, Touches, WereSo}
+use Rattle.touching.specs.Touches.{WereSo}
+use Rattle.touching.proofs.Finding.{Finds, found_so}
 use Rattle.touching.proofs.Moments.{been_wider}
 use Rattle.touching.proofs.OwnScx.{InTree}
 use Rattle.touching.proofs.Present.{in_tree_kind}
@@ -71,11 +72,11 @@ module _ {R A : Type 0} (means : ReadMeaning R A) (m : ReadRun R) (c : Call) (h 
   stood_node : Extends begin c.start → (n : ℕ) → HasStood try h n → WasThere c h n
   stood_node e n x = been_wider h begin c.start _ e (stood_there try h n x)
 
-  read_at : (at : ReadAt) (s : Step) → ReadGoes means m try h → StandsInTry means m c h begin at → ReadWaitsAt means m try h s at → Touches InTree c h s.word
+  read_at : (at : ReadAt) (s : Step) → ReadGoes means m try h → StandsInTry means m c h begin at → ReadWaitsAt means m try h s at → Finds InTree c h s.word
   read_at Start s g i k = absurd k
   read_at (Walk walk side turns) s g i k = walk_in_call InTree in_tree_kind c begin h k.1.run walk (walk_now turns walk.at k.1.since i) s (λ past. walk_since turns walk.at past i) k.1
-  read_at Root s g i k = rw k.1 (was_so (root_so InTree in_tree_kind c h g.reads.run i.0.since))
-  read_at (Load of) s g i k = rw k.1 (was_so (stood_node i.begins.since (load_node of).0 (loaded of k.0)))
+  read_at Root s g i k = rw k.1 (found_so (root_so InTree in_tree_kind c h g.reads.run i.0.since))
+  read_at (Load of) s g i k = rw k.1 (found_so (stood_node i.begins.since (load_node of).0 (loaded of k.0)))
   read_at (Look children low llx) s g i k =
       let x = k.1 in
       llx_in_call InTree TreeAllows c x.0 h llx s g.reads.run.1 (ends_trans x.0 begin c.start x.1 i.begins.since) x.2 (stood_node i.begins.since llx.node.0 k.0.stood)
@@ -92,5 +93,5 @@ module _ {R A : Type 0} (means : ReadMeaning R A) (m : ReadRun R) (c : Call) (h 
             was = record { tree = w.tree; is_tree = w.is_tree; has = w.has };
           }
 
-pub read_touches : {R A : Type 0} (means : ReadMeaning R A) (m : ReadRun R) (c : Call) (h : History) (s : Step) → ReadWaits means m c h s → Touches InTree c h s.word
-read_touches means m c h s w = read_at means m c h w.0 m.at s w.2 w.1 w.3
+pub read_finds : {R A : Type 0} (means : ReadMeaning R A) (m : ReadRun R) (c : Call) (h : History) (s : Step) → ReadWaits means m c h s → Finds InTree c h s.word
+read_finds means m c h s w = read_at means m c h w.0 m.at s w.2 w.1 w.3

@@ -12,7 +12,8 @@ use Rattle.template.specs.declared.walk.WalkRun.{WalkRun}
 use Rattle.template.specs.declared.walk.WalkAt.{WalkAt}
 use Rattle.template.specs.declared.walk.WalkAt.TheVariants.{Start, Root, Head, Key, Child, More, Pair, Value, High}
 use Rattle.template.proofs.Lemmas.{own_since}
-use Rattle.touching.specs.Touches.{WasSo, Touches, was_so}
+use Rattle.touching.specs.Touches.{WasSo}
+use Rattle.touching.proofs.Finding.{Finds, found_so}
 use Rattle.touching.proofs.Present.{HasTree, stood_so}
 
 -- the root always is
@@ -37,9 +38,9 @@ module _ (P : Layout → History → ℕ → Type 0) (kind : HasTree P) (c : Cal
     here_so (Value head more slot key) e k = passed_so (path_key m.goal) m.trail.node.0 (e tt) k.0.trail.node
     here_so (High head more slot key low) e k = passed_so (path_key m.goal) m.trail.node.0 (e tt) k.0.trail.node
 
-    -- so it touches what it loads
-    pub walk_in_call : (s : Step) → (IsPastRoot m.at → Extends begin c.start) → WalkWaits m (begun_at c begin) h s → Touches P c h s.word
-    walk_in_call s e w = rw w.asked (was_so (here_so m.at e w.known))
+    -- so it finds what it loads
+    pub walk_in_call : (s : Step) → (IsPastRoot m.at → Extends begin c.start) → WalkWaits m (begun_at c begin) h s → Finds P c h s.word
+    walk_in_call s e w = rw w.asked (found_so (here_so m.at e w.known))
 
-pub walk_touches : (P : Layout → History → ℕ → Type 0) → HasTree P → (m : WalkRun) (c : Call) (h : History) (s : Step) → WalkWaits m c h s → Touches P c h s.word
-walk_touches P kind m c h s w = walk_in_call P kind c c.start h w.run m w.since s (λ past. ends_self c.start) w
+pub walk_finds : (P : Layout → History → ℕ → Type 0) → HasTree P → (m : WalkRun) (c : Call) (h : History) (s : Step) → WalkWaits m c h s → Finds P c h s.word
+walk_finds P kind m c h s w = walk_in_call P kind c c.start h w.run m w.since s (λ past. ends_self c.start) w

@@ -1,7 +1,7 @@
 -- Which rows are steps of calls of maps: what a call has come to by them all the way, and what a
 -- pass has filled by them.
-use Rattle.std.specs.Prelude.{◌≡◌, ◌<◌, ◌⊎◌, ℕ}
-use Rattle.histories.specs.Common.{Layout, Side, NodeWord, ScxWord, New, Member, Fill, Row, Step, History, ◌⊳◌, Extends, node, scx, child, new, IsInField, IsTakenNode, IsBegin, Call, row_of}
+use Rattle.std.specs.Prelude.{◌≡◌, ◌≢◌, ◌<◌, ◌≤◌, ◌⊎◌, ℕ}
+use Rattle.histories.specs.Common.{Layout, Side, NodeWord, ScxWord, New, Member, Fill, Word, Node, Scx, Row, Step, History, ◌⊳◌, Extends, node, scx, child, new, opening_nodes, IsInField, IsTakenNode, IsTakenScx, IsBegin, Call, row_of}
 use Rattle.prims.specs.Moments.{AreFinished}
 use Rattle.dict.specs.Known.{MapWaits}
 use Rattle.dict.specs.declared.run.MapRun.{MapRun}
@@ -41,6 +41,15 @@ pub record PutsInFresh (c : Call) (h : History) (r : Row) : Type 0 where
   pub field : (n : ℕ) (side : Side) → r.kind ≡ Fill → r.word ≡ child n side → IsInField c.layout h r.after ⊎ ¬ IsTakenNode c.start r.after
   pub stored : (s : ℕ) → r.kind ≡ Fill → r.word ≡ scx s New → ¬ IsTakenNode c.start r.after
   pub begun : (s : ℕ) → IsBegin h r s → ¬ IsTakenNode c.start (new h s)
+
+-- the word is of a record that was not there from the start, and that nobody has taken
+abbrev pub IsOfUntaken : Layout → History → Word → Type 0
+IsOfUntaken lay h (Node n part) = (opening_nodes lay ≤ n.0) × ¬ IsTakenNode h n.0
+IsOfUntaken lay h (Scx s part) = (s.0 ≢ 0) × ¬ IsTakenScx h s.0
+
+-- to a word of such a record the row comes only to fill it
+abbrev pub FillsUntaken : Call → History → Row → Type 0
+FillsUntaken c h r = IsOfUntaken c.layout h r.word → r.kind ≡ Fill
 
 -- the row is of no word of this node
 abbrev pub IsNotAtNode : ℕ → Call → History → Row → Type 0

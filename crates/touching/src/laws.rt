@@ -43,7 +43,7 @@ ghost use Rattle.touching.specs.Kinds.{IsInTree, IsNotFinal};
 ghost use Rattle.touching.specs.Left.{AreLetGoOrLeft, HasLeft, IsNamedByLeft};
 ghost use Rattle.touching.specs.Unmarked.{CoversUnmarked};
 ghost use Rattle.touching.specs.Rests.{AllHaveRested, AreLetGo, HasRestedSince, IsNamedByFinal};
-ghost use Rattle.touching.specs.Steps.{AllHavePaused, HasPaused, IsMapCall, IsMapStep, IsNotAtNode, IsNotAtScx, MayComeThere, OfEachStep, PutsInFresh, StoresUnmarked};
+ghost use Rattle.touching.specs.Steps.{AllHavePaused, FillsUntaken, HasPaused, IsMapCall, IsMapStep, IsNotAtNode, IsNotAtScx, MayComeThere, OfEachStep, PutsInFresh, StoresUnmarked};
 ghost use Rattle.touching.specs.Touches.{HasReached, MayBeHelped, Touches, TouchesNode, TouchesScx, WasCovered, WasSo, WereSo};
 
 use arena::Shape;
@@ -102,14 +102,16 @@ pub fn dictionaries_touch<K: WordKey, V: WordValue>()
 {}
 
 /// What a whole call of a map comes to, step by step: each word is one that it may come to then;
-/// what it stores in a `v` word had no mark at a moment of it; and what it puts in is fresh to it.
-/// It does nothing; a caller learns this from its contract.
+/// what it stores in a `v` word had no mark at a moment of it; what it puts in is fresh to it; and
+/// to what nobody has taken it comes only to fill it. It does nothing; a caller learns this from
+/// its contract.
 pub fn steps_touch()
     ensures touches { (c : Call) (h : History) → IsMapCall c h
         → OfEachStep (MayComeThere (λ lay. IsInTree)) c h }
     ensures stores { (c : Call) (h : History) (r : Row) → IsMapStep c h r → StoresUnmarked c h r }
     ensures fresh { (c : Call) (h : History) (r : Row) → Lawful c.layout (r ⊳ h)
         → IsMapStep c h r → PutsInFresh c h r }
+    ensures fills { (c : Call) (h : History) (r : Row) → IsMapStep c h r → FillsUntaken c h r }
 {}
 
 /// Each step of a call of a dictionary is one of a call of a map. It does nothing; a caller learns

@@ -70,6 +70,7 @@ module _ (c : Call) (run : IsMapRun c.layout c.start) where
       left = m.share;
       first = share;
       spends = (rw (at, all) (omega arith), rw (at, all) (omega arith), rw (at, all) (omega arith));
+      end = refl;
     }
 
   goes : (m : InnerRun) (tries : ℕ) → c.layout.mode ≡ map_mode (inner_trie m) → IsOfKind m → StandsAtStart m tries c.number → RestsWith c c.start (inner_share m) → Goes m tries c

@@ -8,7 +8,7 @@ use Rattle.arena.proofs.Lemmas.{value_at, held_back, taken_node_more, taken_scx_
 use Rattle.histories.proofs.Lemmas.{IsMention, IsNodeFill, one_node_owner, stays_unnamed, unmentioned_by_fill, unmentioned_by_others, unmentioned_by_step, unnamed_stays, untaken_by_node}
 use Rattle.template.specs.Common.{AreFinished, IsShare}
 use Rattle.prims.specs.Laws.Begun.{takes_by_others, takes_by_node, takes_by_step}
-use Rattle.prims.proofs.Lemmas.{left_own_node, over_more, share_by_others, share_by_step}
+use Rattle.prims.proofs.Lemmas.{over_more, share_by_others, share_by_step}
 use Rattle.edits.specs.declared.piece.Piece.{Piece}
 use Rattle.edits.specs.Pieces.{fill_place, word_of}
 use Rattle.edits.specs.Laws.NodeFills.{named_before, others_stay, same_stays}
@@ -109,9 +109,9 @@ module _ (lay : Layout) (h : History) (r : Row) (c : ℕ) (left : Remaining) (fi
     to_scx = x.share.to_scx;
     taken_nodes = λ m o i. taken_node_more r h m (x.share.taken_nodes m o i);
     taken_scx = λ s o i. taken_scx_more r h s (x.share.taken_scx s o i);
-    unmentioned = λ k p. unmentioned_still k (left_own_node lay h c left first left.next_scx k x.share p) (let a = p.from in let b = x.next in omega (arith, b)) (x.share.unmentioned k p);
-    untaken_nodes = λ k p. untaken_still k (λ e. let a = p.from in let b = x.next in omega (arith, a, b, e)) (x.share.untaken_nodes k p);
-    untaken = λ s p. untaken_by_node h r n s part word (x.share.untaken s p);
+    unmentioned = λ k own i. unmentioned_still k own (let b = x.next in omega (arith, b, i)) (x.share.unmentioned k own i);
+    untaken_nodes = λ k own i. untaken_still k (λ e. let b = x.next in omega (arith, i, b, e)) (x.share.untaken_nodes k own i);
+    untaken = λ s own i. untaken_by_node h r n s part word (x.share.untaken s own i);
   }
 
   over_filled : AreFinished lay c 0 (r ⊳ h)

@@ -20,11 +20,14 @@ module _ (c : Call) (h : History) (left : Remaining) (first top : ℕ) (piece : 
   here : HasScx left left.next_scx
   here = record { from = omega arith; below = omega (arith, some) }
 
+  own_next : IsOwnScx c.layout c.pass left.next_scx
+  own_next = left_own_scx c.layout h c.pass left first left.next_scx left.next_scx x.share here
+
   own : IsOwnScx c.layout c.pass m.scx.0
-  own = rw is_scx (left_own_scx c.layout h c.pass left first left.next_scx left.next_scx x.share here)
+  own = rw is_scx own_next
 
   free : ¬ IsTakenScx h m.scx.0
-  free = rw is_scx (x.share.untaken left.next_scx here)
+  free = rw is_scx (x.share.untaken left.next_scx own_next (omega arith))
 
   real : m.scx.0 ≢ 0
   real e = let i = own.from in omega (arith, e)
@@ -69,9 +72,9 @@ hand_share lay h c left first top piece some x = record {
   to_scx = let a = x.share.to_scx in omega (arith, a, some);
   taken_nodes = λ n o i. taken n o (split n (rw x.next at i));
   taken_scx = x.share.taken_scx;
-  unmentioned = λ n p. x.share.unmentioned n record { from = p.from; below = p.below };
-  untaken_nodes = λ n p. x.share.untaken_nodes n record { from = p.from; below = p.below };
-  untaken = λ s p. x.share.untaken s record { from = let a = p.from in omega (arith, a); below = let a = p.below in omega (arith, a, some) };
+  unmentioned = x.share.unmentioned;
+  untaken_nodes = x.share.untaken_nodes;
+  untaken = λ s own i. x.share.untaken s own (omega (arith, i));
 }
   where
     split : (n : ℕ) → n < suc top → (n < first) ⊎ ((first ≤ n) × (n ≤ top))

@@ -1,13 +1,13 @@
 use Rattle.std.proofs.Common.{◌≡◌, ◌<◌, rules, subst}
 use Rattle.arena.specs.declared.layout.Layout.{Layout}
 use Rattle.forest.specs.TableRule.{seated_pass}
-use Rattle.forest.specs.Traces.{known_of, planting_of, rested_of}
+use Rattle.forest.specs.Traces.{known_of, planting_of, memory_of}
 use Rattle.forest.proofs.Closes.{looked_from}
 use Rattle.forest.proofs.close.seat_of.Goals as goal
 
 pub look_alone-requires-clause-one : goal.look_alone-requires-clause-one
 look_alone-requires-clause-one g c = let p = c.pass.inside in let lay : p.layout ≡ c.args.layout.now = search rules in
-    (seated_pass p.number.0 p.layout (planting_of p.seat.me.0.passes) (rested_of p.seat.me.0.passes) (known_of p.seat.me.0.passes), c.pass.invariant.seat.alone, lay, subst (λ (l : Layout). p.number.0 < l.passes) lay c.pass.invariant.is_pass)
+    (seated_pass p.number.0 p.layout (planting_of p.seat.me.0.passes) (memory_of p.seat.me.0.passes) (known_of p.seat.me.0.passes), c.pass.invariant.seat.alone, lay, subst (λ (l : Layout). p.number.0 < l.passes) lay c.pass.invariant.is_pass)
 
 pub returns-clause-pass : goal.returns-clause-pass
 returns-clause-pass g c = rw (← c.pass.view_is) (looked_from c.pass.inside c.pass.invariant c.look_alone.new.seat c.look_alone.ensures.looked.0 c.look_alone.ensures.table.1 c.look_alone.ensures.looked.1)

@@ -1,8 +1,7 @@
 use Rattle.dict.specs.Inner.{edit_means}
 use Rattle.order.specs.Neighbour.{neighbour_means}
 use Rattle.order.specs.Range.{range_means}
-use Rattle.touching.proofs.Calling.{edit_touches}
-use Rattle.touching.proofs.Reading.{read_touches}
+use Rattle.touching.proofs.Calling.{edit_touches, read_touches}
 use Rattle.touching.proofs.Updating.{update_unmarked}
 use Rattle.touching.proofs.laws.machines_touch.Goals as goal
 

@@ -15,7 +15,7 @@ pub returns-in-Done-clause-turn : goal.returns-in-Done-clause-turn
 returns-in-Done-clause-turn g c tries d h run ready =
     let r : MapIsReady tries (Edit c.in-Edit.run') d h c.args.got = rw c.in-Edit.is at ready in
     let same = c.step.ensures.same in
-    (_, edit_ends tries d h c.in-Edit.run' c.step.new.self c.in-Done.updated run r.0 same.0 same.1 same.2 (c.in-Done.ensures.spends (update_spends edit_means c.in-Edit.run' d h c.args.got r.1)) (c.in-Done.ensures.turn d h run r.1), c.of_edit.ensures)
+    (_, edit_ends tries d h c.in-Edit.run' c.step.new.self c.in-Done.updated run r.0 same.0 same.1 same.2 same.3 (c.in-Done.ensures.spends (update_spends edit_means c.in-Edit.run' d h c.args.got r.1)) (c.in-Done.ensures.turn d h run r.1), c.of_edit.ensures)
 
 pub returns-in-Done-next-clause-turn : goal.returns-in-Done-next-clause-turn
 returns-in-Done-next-clause-turn g c tries d h run ready =
@@ -43,7 +43,7 @@ pub returns-in-Ask-clause-turn : goal.returns-in-Ask-clause-turn
 returns-in-Ask-clause-turn g c tries d h run ready =
     let r : MapIsReady tries (Edit c.in-Edit.run') d h c.args.got = rw c.in-Edit.is at ready in
     let same = c.step.ensures.same in
-    (edit_goes tries d c.in-Edit.run' c.step.new.self r.0 same.0 same.1 same.2 (c.in-Ask.ensures.spends (update_spends edit_means c.in-Edit.run' d h c.args.got r.1)), c.in-Ask.ensures.turn d h run r.1)
+    (edit_goes tries d c.in-Edit.run' c.step.new.self r.0 same.0 same.1 same.2 same.3 (c.in-Ask.ensures.spends (update_spends edit_means c.in-Edit.run' d h c.args.got r.1)), c.in-Ask.ensures.turn d h run r.1)
 
 pub returns-in-Ask-step-clause-turn : goal.returns-in-Ask-step-clause-turn
 returns-in-Ask-step-clause-turn g c tries d h run ready =

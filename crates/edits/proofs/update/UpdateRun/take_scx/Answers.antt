@@ -4,7 +4,7 @@ use Rattle.prims.proofs.Lemmas.{turn_start}
 use Rattle.template.specs.Common.{ScxRun, ScxAt, Snap, TreeAllows}
 use Rattle.prims.specs.declared.scx.ScxAt.TheVariants.{Start, Plan}
 use Rattle.edits.specs.Edits.{all_looks}
-use Rattle.edits.specs.Next.{next_step, ComesNearer, HasSpentForNext, UpdateGoesOn}
+use Rattle.edits.specs.Next.{IsSameUpdate, next_step, ComesNearer, HasSpentForNext, UpdateGoesOn}
 use Rattle.edits.specs.Steps.{try_left}
 use Rattle.edits.specs.Pieces.{update_for}
 use Rattle.edits.specs.declared.update.UpdateRun.{UpdateRun}
@@ -12,6 +12,7 @@ use Rattle.edits.specs.declared.update.Next.TheVariants.{Change}
 use Rattle.edits.proofs.Beginning.{scx_begins}
 use Rattle.edits.proofs.Looking.{few_with_guard}
 use Rattle.edits.proofs.Nearer.{scx_left_now, scx_for_nodes}
+use Rattle.edits.proofs.Taking.{record_taken}
 use Rattle.edits.proofs.update.UpdateRun.take_scx.Goals as goal
 
 pub returns-in-Some-clause-nearer : goal.returns-in-Some-clause-nearer
@@ -38,6 +39,11 @@ returns-in-Some-clause-turn g c d b h run try x = subst (λ (n : UpdateRun _ _).
 
     taken : (c.in-Some.scx.0 ≡ c.args.self.now.share.next_scx) × (0 < c.args.self.now.share.scx) × (c.scx.new.self ≡ record c.args.self.now.share { next_scx = c.args.self.now.share.next_scx + 1; scx = c.args.self.now.share.scx - 1 })
     taken = rw c.in-Some.is at c.scx.ensures.after_taking
+
+pub returns-in-Some-clause-same : goal.returns-in-Some-clause-same
+returns-in-Some-clause-same g c =
+    let taken = rw c.in-Some.is at c.scx.ensures.after_taking in
+    subst (λ (n : UpdateRun _ _). IsSameUpdate c.args.self.now n) (sym c.cover.ensures.same) (refl, refl, refl, record_taken c.args.self.now.share c.scx.new.self taken.1 taken.2)
 
 pub returns-in-None-clause-turn : goal.returns-in-None-clause-turn
 returns-in-None-clause-turn g c d b h run try x = absurd (let z = (rw c.in-None.is at c.scx.ensures.empty).0 in let s = x.some in omega (arith, z, s))

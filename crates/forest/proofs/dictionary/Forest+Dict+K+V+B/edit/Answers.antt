@@ -28,14 +28,14 @@ call_ended g c = c.make-told.ensures.ends (call_of c.pass.inside c.pass.invarian
 pub invariant_of-pass : goal.invariant_of-pass
 invariant_of-pass g c =
     let e = call_ended g c in
-    whole_pass g.K.WordKey.is_valid g.K.WordKey.word_of g.V.WordValue.is_valid g.V.WordValue.word_of (g.B.Balance.trie g.B.FixedBalance.the) c.pass.inside c.pass.invariant c.make-told.new.seat e.first e.last c.make-told.result.0 e.ends c.make-told.result.1 c.note_reply.new.self e.is_left c.note_reply.ensures c.make-told.ensures.table.1
+    whole_pass g.K.WordKey.is_valid g.K.WordKey.word_of g.V.WordValue.is_valid g.V.WordValue.word_of (g.B.Balance.trie g.B.FixedBalance.the) c.pass.inside c.pass.invariant c.make-told.new.seat e.first e.last c.make-told.result.0 e.ends (e.fresh.has_share ∙ c.replace-share.ensures.value) c.make-told.result.1 c.note_reply.new.self e.is_left c.note_reply.ensures c.make-told.ensures.table.1
 
 pub returns : goal.returns
 returns g c =
     let e = call_ended g c in
     let same = of_first g.K.WordKey.is_valid g.K.WordKey.word_of g.V.WordValue.is_valid g.V.WordValue.word_of (g.B.Balance.trie g.B.FixedBalance.the) c.pass.inside c.pass.invariant c.make-told.new.seat e.first e.last c.make-told.result.0 e.ends in
     rw (← c.pass.view_is, ← c.self.view_is)
-    (whole_call g.K.WordKey.is_valid g.K.WordKey.word_of g.V.WordValue.is_valid g.V.WordValue.word_of (g.B.Balance.trie g.B.FixedBalance.the) c.pass.inside c.pass.invariant c.make-told.new.seat e.first e.last c.make-told.result.0 e.ends c.make-told.result.1 c.note_reply.new.self e.is_left c.note_reply.ensures
+    (whole_call g.K.WordKey.is_valid g.K.WordKey.word_of g.V.WordValue.is_valid g.V.WordValue.word_of (g.B.Balance.trie g.B.FixedBalance.the) c.pass.inside c.pass.invariant c.make-told.new.seat e.first e.last c.make-told.result.0 e.ends (e.fresh.has_share ∙ c.replace-share.ensures.value) c.make-told.result.1 c.note_reply.new.self e.is_left c.note_reply.ensures
     _ (rw (← c.pass.view_is, ← c.self.view_is) at c.requires.pass) _ (same.0 ∙ e.fresh.is_call) (same.1 ∙ e.fresh.has_tries) c.make-told.ensures.table.0 c.make-told.ensures.steps
     (λ none. absurd (none tt)))
 

@@ -39,13 +39,13 @@ over g c = get_over g.K.WordKey.is_valid g.K.WordKey.word_of g.V.WordValue.is_va
 pub invariant_of-pass : goal.invariant_of-pass
 invariant_of-pass g c =
     let e = over g c in
-    whole_pass g.K.WordKey.is_valid g.K.WordKey.word_of g.V.WordValue.is_valid g.V.WordValue.word_of (g.B.Balance.trie g.B.FixedBalance.the) c.pass.inside c.pass.invariant c.to_goal.new.seat _ (at g c e.0) (Value c.value_of.result) e.1 c.pass.inside.share c.pass.inside.blamed refl refl c.to_goal.ensures.table.1
+    whole_pass g.K.WordKey.is_valid g.K.WordKey.word_of g.V.WordValue.is_valid g.V.WordValue.word_of (g.B.Balance.trie g.B.FixedBalance.the) c.pass.inside c.pass.invariant c.to_goal.new.seat _ (at g c e.0) (Value c.value_of.result) e.1 refl c.pass.inside.share c.pass.inside.blamed refl refl c.to_goal.ensures.table.1
 
 pub returns : goal.returns
 returns g c =
     let e = over g c in
     rw (← c.pass.view_is, ← c.self.view_is)
-    (whole_call g.K.WordKey.is_valid g.K.WordKey.word_of g.V.WordValue.is_valid g.V.WordValue.word_of (g.B.Balance.trie g.B.FixedBalance.the) c.pass.inside c.pass.invariant c.to_goal.new.seat _ (at g c e.0) (Value c.value_of.result) e.1 c.pass.inside.share c.pass.inside.blamed refl refl
+    (whole_call g.K.WordKey.is_valid g.K.WordKey.word_of g.V.WordValue.is_valid g.V.WordValue.word_of (g.B.Balance.trie g.B.FixedBalance.the) c.pass.inside c.pass.invariant c.to_goal.new.seat _ (at g c e.0) (Value c.value_of.result) e.1 refl c.pass.inside.share c.pass.inside.blamed refl refl
     _ (rw (← c.pass.view_is, ← c.self.view_is) at c.requires.pass) (Get (g.K.WordKey.word_of c.args.key.now)) (ap Get c.word.ensures) refl c.to_goal.ensures.table.0 (leaf_steps (g.B.Balance.trie g.B.FixedBalance.the) c.leaf_way-way.result _ _ _ (c.leaf_way-way.ensures ∙ ap leaf_way c.in_trie.ensures) c.to_goal.ensures.steps) (λ none. absurd (none tt)))
 
 pub to_goal-requires-clause-first : goal.to_goal-requires-clause-first

@@ -28,13 +28,13 @@ call_ended g c = c.read-reply.ensures.ends (call_of c.pass.inside c.pass.invaria
 pub invariant_of-pass : goal.invariant_of-pass
 invariant_of-pass g c =
     let e = call_ended g c in
-    whole_pass g.K.WordKey.is_valid g.K.WordKey.word_of g.V.WordValue.is_valid g.V.WordValue.word_of (g.B.Balance.trie g.B.FixedBalance.the) c.pass.inside c.pass.invariant c.read-reply.new.seat e.first e.last c.read-reply.result e.ends c.pass.inside.share c.note_reply.new.self e.is_left c.note_reply.ensures c.read-reply.ensures.table.1
+    whole_pass g.K.WordKey.is_valid g.K.WordKey.word_of g.V.WordValue.is_valid g.V.WordValue.word_of (g.B.Balance.trie g.B.FixedBalance.the) c.pass.inside c.pass.invariant c.read-reply.new.seat e.first e.last c.read-reply.result e.ends e.fresh.has_share c.pass.inside.share c.note_reply.new.self e.is_left c.note_reply.ensures c.read-reply.ensures.table.1
 
 pub returns : goal.returns
 returns g c =
     let e = call_ended g c in
     let same = of_first g.K.WordKey.is_valid g.K.WordKey.word_of g.V.WordValue.is_valid g.V.WordValue.word_of (g.B.Balance.trie g.B.FixedBalance.the) c.pass.inside c.pass.invariant c.read-reply.new.seat e.first e.last c.read-reply.result e.ends in
     rw (← c.pass.view_is, ← c.self.view_is)
-    (whole_call g.K.WordKey.is_valid g.K.WordKey.word_of g.V.WordValue.is_valid g.V.WordValue.word_of (g.B.Balance.trie g.B.FixedBalance.the) c.pass.inside c.pass.invariant c.read-reply.new.seat e.first e.last c.read-reply.result e.ends c.pass.inside.share c.note_reply.new.self e.is_left c.note_reply.ensures
+    (whole_call g.K.WordKey.is_valid g.K.WordKey.word_of g.V.WordValue.is_valid g.V.WordValue.word_of (g.B.Balance.trie g.B.FixedBalance.the) c.pass.inside c.pass.invariant c.read-reply.new.seat e.first e.last c.read-reply.result e.ends e.fresh.has_share c.pass.inside.share c.note_reply.new.self e.is_left c.note_reply.ensures
     _ (rw (← c.pass.view_is, ← c.self.view_is) at c.requires.pass) _ (same.0 ∙ e.fresh.is_call) (same.1 ∙ e.fresh.has_tries) c.read-reply.ensures.table.0 c.read-reply.ensures.steps
     (λ none. let same = c.read-reply.ensures.nothing none in (ap (λ (k : Seat ℕ SeatView). planting_of k.me.0.passes) same, ap (λ (k : Seat ℕ SeatView). known_of k.me.0.passes) same)))

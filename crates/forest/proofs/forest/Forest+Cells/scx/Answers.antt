@@ -8,7 +8,7 @@ use Rattle.forest.specs.declared.straight.put.PutTask.{PutTask}
 use Rattle.forest.specs.declared.pass.Pass.TheInside.{Inside}
 use Rattle.forest.proofs.Passes.{layout_of, call_of, goes_nowhere}
 use Rattle.forest.proofs.VlxCalls.{apart_at, among_at}
-use Rattle.forest.proofs.ScxCalls.{HasPut, put_begins, put_called, put_pass, put_says, put_alone, put_goes_on}
+use Rattle.forest.proofs.ScxCalls.{HasPut, all_taken, put_begins, put_called, put_pass, put_says, put_alone, put_goes_on}
 use Rattle.forest.proofs.forest.Forest+Cells.scx.Goals as goal
 
 pub new-update-requires-clause-distinct : goal.new-update-requires-clause-distinct
@@ -85,6 +85,12 @@ returns-in-Err-clause-called c = record {
   cells = c.pass.invariant.is_mode;
   goes_on = rw (← c.pass.view_is, c.in-Err.ensures.full.1) (goes_nowhere c.pass.inside c.pass.invariant _ 40);
 }
+
+pub returns-in-Err-clause-full : goal.returns-in-Err-clause-full
+returns-in-Err-clause-full c =
+    let p = c.pass.inside in
+    let full = c.in-Err.ensures.full in
+    rw (← c.pass.view_is) ((full.0, all_taken (pass_view p) c.in-Err.full.what c.in-Err.full.left c.pass.invariant.rest full.0), ap (λ s. pass_view (record p { share = s })) full.1)
 
 pub returns-clause-says : goal.returns-clause-says
 returns-clause-says c = let some = c.in-Ok.ensures.some in

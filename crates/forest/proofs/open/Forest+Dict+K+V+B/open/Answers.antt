@@ -51,7 +51,7 @@ asks : (g : Over) (c : goal.After-next-turn g) → AsksForPairs (call_in c.next-
 asks g c some = c.next-turn.ensures.begins refl (subst AsksForPairs c.next-turn.ensures.same.0 some) (call_of c.pass.inside c.pass.invariant (taken_of (pass_view c.pass.inside))) _ (starts g c).so.1
 
 pub invariant_of-result : goal.invariant_of-result
-invariant_of-result g c = begins_open g.K.WordKey.is_valid g.K.WordKey.word_of g.V.WordValue.is_valid g.V.WordValue.word_of (g.B.Balance.trie g.B.FixedBalance.the) c.pass.inside c.pass.invariant c.new-run.result c.next-turn.new.self c.next-turn.result c.taken-call.result (named g c) (first_turn g c) (few_steps g c) (asks g c) c.of-began.result (c.of-began.ensures ∙ sym c.pass.view_is)
+invariant_of-result g c = begins_open g.K.WordKey.is_valid g.K.WordKey.word_of g.V.WordValue.is_valid g.V.WordValue.word_of (g.B.Balance.trie g.B.FixedBalance.the) c.pass.inside c.pass.invariant c.new-run.result c.next-turn.new.self c.next-turn.result c.taken-call.result (named g c) c.new-run.ensures.share (first_turn g c) (few_steps g c) (asks g c) c.of-began.result (c.of-began.ensures ∙ sym c.pass.view_is)
 
 pub returns-clause-left : goal.returns-clause-left
 returns-clause-left g c = subst (λ (l : Layout). weight c.next-turn.result (map_left c.next-turn.new.self.run (shared_nodes c.pass.inside.layout)) ≤ most_steps (call_in c.next-turn.new.self.run) c.next-turn.new.self.tries (nodes_by (g.B.Balance.trie g.B.FixedBalance.the) (shared_nodes l))) (layout_of c.pass.view_is c.self.view_is c.requires.pass ∙ ap (λ (f : Ground). f.layout) c.self.view_is) (few_steps g c)

@@ -25,6 +25,7 @@ returns-clause-rests c = record {
   holds = record {
     some = refl;
     share = rw c.of.ensures.whole (whole_untouched c.args.layout.now (empty c.args.layout.now.mode) c.args.pass.0 (lawful c.args.layout.now));
+    upper = rw c.of.ensures.whole refl;
     over = λ s own d t. absurd (none_taken (empty c.args.layout.now.mode) s t);
   };
   none = refl;

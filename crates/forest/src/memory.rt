@@ -1,5 +1,4 @@
-//! What a seat of a table that lasts knows. No value of these types is made.
-use crate::view::SeatedPass;
+//! What a pass of a table that lasts remembers. No value of these types is made.
 use arena::{NodeNo, PassNo, Row, ScxNo, Word};
 use std::collections::LinkedList;
 
@@ -43,6 +42,8 @@ pub struct Polled {
 
 /// What a pass remembers from one call to the next.
 pub struct PassMemory {
+    /// The run up to its last rest, the newest row first.
+    pub rested: LinkedList<Row>,
     /// Whether it is away.
     pub away: bool,
     /// How often it has rested.
@@ -61,12 +62,4 @@ pub struct PassMemory {
     pub empty: LinkedList<RecordNo>,
     /// Words of such slots that are 0.
     pub zeros: LinkedList<Word>,
-}
-
-/// The passes of a seat, each of this seat alone, and what they remember, in the same order.
-pub struct LastingView {
-    /// The passes.
-    pub passes: LinkedList<SeatedPass>,
-    /// What they remember.
-    pub memories: LinkedList<PassMemory>,
 }
