@@ -24,7 +24,7 @@ use Rattle.forest.specs.TableRule.{history_of, past_of, seat_view}
 use Rattle.forest.specs.LastingMemory.{AreHeldOrGone, IsDealt, IsEmptySlot, IsGone, IsGoneRecord, IsHeldName, IsNoteSo, IsZeroWord, Present, RemembersNames, RemembersWell, present, record_at}
 use Rattle.forest.specs.LastingNotes.{IsIn, noted_as}
 use Rattle.forest.specs.LastingRule.{LearnsWith, TableLasts}
-use Rattle.forest.specs.LastingSlots.{IsLastDealt, IsNotBefore, IsTaken, memory_cleared, memory_given_back, memory_let_go, memory_without, slot_number}
+use Rattle.forest.specs.LastingSlots.{IsLastDealt, IsNotBefore, memory_cleared, memory_given_back, memory_let_go, memory_without, of_others, slot_number}
 use Rattle.forest.specs.declared.view.SeatView.{SeatView}
 use Rattle.forest.specs.declared.memory.PassMemory.{PassMemory}
 use Rattle.forest.specs.declared.memory.NoteView.TheVariants.{OutOfReach}
