@@ -24,16 +24,9 @@ nobody = seat_view []
 
 module _ (allows : Layout → History → ℕ → Type 0) (t : Lasting) (planting : PlantingView) where
   -- the rule holds of other views where it holds of all of them
-  reseated : (s : State ℕ SeatView) (views : List SeatView) (kept : TableLasts allows t planting s) (owner : ℕ → ℕ) → ((id : ℕ) (v : SeatView) → get_elem? views id ≡ some v → Owns (plot_in t planting) kept.rows owner id v.passes × RememberWell t planting (present s.words (history_of planting kept.rows) kept.last kept.held kept.tally) v.passes) → TableLasts allows t planting record { words = s.words; homes = s.homes; views = views }
+  reseated : (s : State ℕ SeatView) (views : List SeatView) (kept : TableLasts allows t planting s) (owner : ℕ → ℕ) → ((id : ℕ) (v : SeatView) → get_elem? views id ≡ some v → Owns (plot_in t planting) kept.run.rows owner id v.passes × RememberWell t planting (present s.words (history_of planting kept.run.rows) kept.run.last kept.run.held kept.run.tally) v.passes) → TableLasts allows t planting record { words = s.words; homes = s.homes; views = views }
   reseated s views kept owner all = record {
-    rows = kept.rows;
-    last = kept.last;
-    held = kept.held;
-    tally = kept.tally;
-    sound = kept.sound;
-    window = kept.window;
-    counts = kept.counts;
-    gone = kept.gone;
+    run = kept.run;
     owner = owner;
     passes = λ id v e. (all id v e).0;
     memories = λ id v e. (all id v e).1;
@@ -45,7 +38,7 @@ module _ (allows : Layout → History → ℕ → Type 0) (t : Lasting) (plantin
       (λ (z : (j ≢ other) × (get_elem? (set s.views id both) j ≡ some u)). ⊎_elim
       (λ (here : (j ≡ id) × (both ≡ u)). subst (Kept j) here.1 (subst (λ i. Kept i both) (sym here.0) mine))
       (λ (away : (j ≢ id) × (get_elem? s.views j ≡ some u)). (
-        owned_by (plot_in t planting) kept.rows kept.owner new j j (λ x is. merged_else kept.owner id other x (λ q. z.0 (sym is ∙ q)) ∙ is) u.passes (kept.passes j u away.1),
+        owned_by (plot_in t planting) kept.run.rows kept.owner new j j (λ x is. merged_else kept.owner id other x (λ q. z.0 (sym is ∙ q)) ∙ is) u.passes (kept.passes j u away.1),
         kept.memories j u away.1,
       ))
       (at_set s.views id j both u z.1))
@@ -58,15 +51,15 @@ module _ (allows : Layout → History → ℕ → Type 0) (t : Lasting) (plantin
       new = merged kept.owner id other
 
       Kept : ℕ → SeatView → Type 0
-      Kept j u = Owns (plot_in t planting) kept.rows new j u.passes × RememberWell t planting (present s.words (history_of planting kept.rows) kept.last kept.held kept.tally) u.passes
+      Kept j u = Owns (plot_in t planting) kept.run.rows new j u.passes × RememberWell t planting (present s.words (history_of planting kept.run.rows) kept.run.last kept.run.held kept.run.tally) u.passes
 
       there : get_elem? s.views other ≡ some w
       there = ⊎_elim (λ (z : (other ≡ id) × (both ≡ w)). absurd (ne z.0)) (λ (z : (other ≢ id) × (get_elem? s.views other ≡ some w)). z.1) (at_set s.views id other both w at_other)
 
       mine : Kept id both
       mine = (
-        owned_both (plot_in t planting) kept.rows kept.owner id other (λ e. ne (sym e)) v.passes w.passes (kept.passes id v at) (kept.passes other w there),
-        remember_both t planting (present s.words (history_of planting kept.rows) kept.last kept.held kept.tally) v.passes w.passes (kept.memories id v at) (kept.memories other w there),
+        owned_both (plot_in t planting) kept.run.rows kept.owner id other (λ e. ne (sym e)) v.passes w.passes (kept.passes id v at) (kept.passes other w there),
+        remember_both t planting (present s.words (history_of planting kept.run.rows) kept.run.last kept.run.held kept.run.tally) v.passes w.passes (kept.memories id v at) (kept.memories other w there),
       )
 
   splits_list : (id : ℕ) (v : SeatView) (ps : List SeatedPass) → v.passes ≡ ps → Splits (TableLasts allows t planting) id v (seat_view (rest_of ps)) (seat_view (first_of ps))
@@ -79,12 +72,12 @@ module _ (allows : Layout → History → ℕ → Type 0) (t : Lasting) (plantin
       (snoc_at (set s.views id nobody) nobody u j e))
     where
       Kept : ℕ → SeatView → Type 0
-      Kept j u = Owns (plot_in t planting) kept.rows kept.owner j u.passes × RememberWell t planting (present s.words (history_of planting kept.rows) kept.last kept.held kept.tally) u.passes
+      Kept j u = Owns (plot_in t planting) kept.run.rows kept.owner j u.passes × RememberWell t planting (present s.words (history_of planting kept.run.rows) kept.run.last kept.run.held kept.run.tally) u.passes
   splits_list id v (p ∷ ps) is s kept at = reseated s (old ++ first ∷ []) kept new (λ j u e. ⊎_elim
       (λ (z : get_elem? old j ≡ some u). ⊎_elim
-      (λ (here : (j ≡ id) × (rest ≡ u)). subst (Kept j) here.1 (subst (λ i. Kept i rest) (sym here.0) (owned_apart (plot_in t planting) kept.rows kept.owner p.number.0 (length old) id ps own.3 own.4, well.1)))
+      (λ (here : (j ≡ id) × (rest ≡ u)). subst (Kept j) here.1 (subst (λ i. Kept i rest) (sym here.0) (owned_apart (plot_in t planting) kept.run.rows kept.owner p.number.0 (length old) id ps own.3 own.4, well.1)))
       (λ (away : (j ≢ id) × (get_elem? s.views j ≡ some u)). (
-        owned_apart (plot_in t planting) kept.rows kept.owner p.number.0 (length old) j u.passes (absent_of (plot_in t planting) kept.rows kept.owner p.number.0 j (λ x. away.0 (sym x ∙ own.0)) u.passes (kept.passes j u away.1)) (kept.passes j u away.1),
+        owned_apart (plot_in t planting) kept.run.rows kept.owner p.number.0 (length old) j u.passes (absent_of (plot_in t planting) kept.run.rows kept.owner p.number.0 j (λ x. away.0 (sym x ∙ own.0)) u.passes (kept.passes j u away.1)) (kept.passes j u away.1),
         kept.memories j u away.1,
       ))
       (at_set s.views id j rest u z))
@@ -104,13 +97,13 @@ module _ (allows : Layout → History → ℕ → Type 0) (t : Lasting) (plantin
       new = moved kept.owner p.number.0 (length old)
 
       Kept : ℕ → SeatView → Type 0
-      Kept j u = Owns (plot_in t planting) kept.rows new j u.passes × RememberWell t planting (present s.words (history_of planting kept.rows) kept.last kept.held kept.tally) u.passes
+      Kept j u = Owns (plot_in t planting) kept.run.rows new j u.passes × RememberWell t planting (present s.words (history_of planting kept.run.rows) kept.run.last kept.run.held kept.run.tally) u.passes
 
-      own : Owns (plot_in t planting) kept.rows kept.owner id (p ∷ ps)
-      own = subst (λ qs. Owns (plot_in t planting) kept.rows kept.owner id qs) is (kept.passes id v at)
+      own : Owns (plot_in t planting) kept.run.rows kept.owner id (p ∷ ps)
+      own = subst (λ qs. Owns (plot_in t planting) kept.run.rows kept.owner id qs) is (kept.passes id v at)
 
-      well : RememberWell t planting (present s.words (history_of planting kept.rows) kept.last kept.held kept.tally) (p ∷ ps)
-      well = subst (RememberWell t planting (present s.words (history_of planting kept.rows) kept.last kept.held kept.tally)) is (kept.memories id v at)
+      well : RememberWell t planting (present s.words (history_of planting kept.run.rows) kept.run.last kept.run.held kept.run.tally) (p ∷ ps)
+      well = subst (RememberWell t planting (present s.words (history_of planting kept.run.rows) kept.run.last kept.run.held kept.run.tally)) is (kept.memories id v at)
 
   pub lasting_splits : (id : ℕ) (v : SeatView) → Splits (TableLasts allows t planting) id v (rest_of_seat v) (first_of_seat v)
   lasting_splits id v = splits_list id v v.passes refl

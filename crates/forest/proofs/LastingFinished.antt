@@ -104,28 +104,28 @@ unborn_info lay (r ⊳ h) n run never = go (change lay h r run.1.lawful) ∙ unb
 
 -- What the look at the place of a node's info tells, whoever is there: that of the node names
 -- another SCX-record, or the node is gone.
-module _ (allows : Layout → History → ℕ → Type 0) (t : Lasting) (planting : PlantingView) (stays : StaysUnborn t.lay) (st : State ℕ SeatView) (kept : TableLasts allows t planting st) (s j n : ℕ) (real : s ≢ 0) (finished : value (history_of planting kept.rows) (state s) ≢ 0) (is_member : member (history_of planting kept.rows) s j ≡ n) (other : slice_index st.words (table_place t (info n)) ≢ s) where
+module _ (allows : Layout → History → ℕ → Type 0) (t : Lasting) (planting : PlantingView) (stays : StaysUnborn t.lay) (st : State ℕ SeatView) (kept : TableLasts allows t planting st) (s j n : ℕ) (real : s ≢ 0) (finished : value (history_of planting kept.run.rows) (state s) ≢ 0) (is_member : member (history_of planting kept.run.rows) s j ≡ n) (other : slice_index st.words (table_place t (info n)) ≢ s) where
   abbrev h : History
-  h = history_of planting kept.rows
+  h = history_of planting kept.run.rows
 
-  named_other : value (history_of planting kept.rows) (info n) ≢ s → WasDoneWith t.lay (history_of planting kept.rows) s j
+  named_other : value (history_of planting kept.run.rows) (info n) ≢ s → WasDoneWith t.lay (history_of planting kept.run.rows) s j
   named_other d = (h, ends_self h, finished, inl (inr (λ e. d (ap (λ m. value h (info m)) (sym is_member) ∙ e))))
 
-  when_held : IsHeld t kept.held (the_node n) → WasDoneWith t.lay (history_of planting kept.rows) s j
-  when_held is = named_other (λ e. other (kept.window.shows (node n Info) (name_record t kept.window.lasting (slot_of t (the_node n)) (the_node n) (kept.window.names.own (slot_of t (the_node n)) (the_node n) is)) is ∙ e))
+  when_held : IsHeld t kept.run.held (the_node n) → WasDoneWith t.lay (history_of planting kept.run.rows) s j
+  when_held is = named_other (λ e. other (kept.run.window.shows (node n Info) (name_record t kept.run.window.lasting (slot_of t (the_node n)) (the_node n) (kept.run.window.names.own (slot_of t (the_node n)) (the_node n) is)) is ∙ e))
 
-  when_gone : IsGone t.lay (history_of planting kept.rows) kept.last n → WasDoneWith t.lay (history_of planting kept.rows) s j
+  when_gone : IsGone t.lay (history_of planting kept.run.rows) kept.run.last n → WasDoneWith t.lay (history_of planting kept.run.rows) s j
   when_gone (inl final) = (h, ends_self h, finished, inr (inl (subst (λ m. is_final (log t.lay h) m ≡ true) (sym is_member) final)))
   when_gone (inr (inl left)) = (h, ends_self h, finished, inr (inr (subst (HasLeft h) (sym is_member) left)))
-  when_gone (inr (inr z)) = named_other (λ e. real (sym e ∙ unborn_info t.lay h n kept.window.run (stays h z.0 (kept.last z.0) n z.1 kept.window.run (kept.window.rested z.0 z.1) z.2).never))
+  when_gone (inr (inr z)) = named_other (λ e. real (sym e ∙ unborn_info t.lay h n kept.run.window.run (stays h z.0 (kept.run.last z.0) n z.1 kept.run.window.run (kept.run.window.rested z.0 z.1) z.2).never))
 
-  pub done_with : WasDoneWith t.lay (history_of planting kept.rows) s j
-  done_with = go (taken_discrete (history_of planting kept.rows) n) (dec_lt n (opening_nodes t.lay))
+  pub done_with : WasDoneWith t.lay (history_of planting kept.run.rows) s j
+  done_with = go (taken_discrete (history_of planting kept.run.rows) n) (dec_lt n (opening_nodes t.lay))
     where
-      go : Dec (IsTakenNode (history_of planting kept.rows) n) → Dec (n < opening_nodes t.lay) → WasDoneWith t.lay (history_of planting kept.rows) s j
-      go (yes taken) d = ⊎_elim when_held when_gone (kept.gone n taken)
-      go (no free) (yes first) = when_held (kept.window.names.first (the_node n) first)
-      go (no free) (no late) = named_other (λ e. real (sym e ∙ untaken_zero t.lay h (node n Info) kept.window.run (omega (arith, late), free)))
+      go : Dec (IsTakenNode (history_of planting kept.run.rows) n) → Dec (n < opening_nodes t.lay) → WasDoneWith t.lay (history_of planting kept.run.rows) s j
+      go (yes taken) d = ⊎_elim when_held when_gone (kept.run.gone n taken)
+      go (no free) (yes first) = when_held (kept.run.window.names.first (the_node n) first)
+      go (no free) (no late) = named_other (λ e. real (sym e ∙ untaken_zero t.lay h (node n Info) kept.run.window.run (omega (arith, late), free)))
 
 -- The notes
 
@@ -147,24 +147,24 @@ module _ (allows : Layout → History → ℕ → Type 0) (t : Lasting) (plantin
     real : s.0 ≢ 0
     real e = let from = mine.0.0.from in omega (arith, from, e)
 
-    was_taken : IsTakenScx (history_of planting kept.rows) s.0
-    was_taken = taken_scx_since (history_of planting kept.rows) (history_of planting p.known) s.0 (behind_known allows t planting st kept id me.0 fits p one) (subst (λ (g : Plot). IsTakenScx (history_of g.planting p.known) s.0) (own allows t planting st kept id me.0 fits p one).1 taken)
+    was_taken : IsTakenScx (history_of planting kept.run.rows) s.0
+    was_taken = taken_scx_since (history_of planting kept.run.rows) (history_of planting p.known) s.0 (behind_known allows t planting st kept id me.0 fits p one) (subst (λ (g : Plot). IsTakenScx (history_of g.planting p.known) s.0) (own allows t planting st kept id me.0 fits p one).1 taken)
 
-    finished : value (history_of planting kept.rows) (state s.0) ≢ 0
+    finished : value (history_of planting kept.run.rows) (state s.0) ≢ 0
     finished = over allows t planting st kept id me.0 fits p one between s.0 mine.0.0 real was_taken
 
     -- its plan and its nodes are as the pass knows
-    word_kept : (part : ScxWord) → ((q : ℕ) → same_word (scx q StateWord) (scx s.0 part) ≡ false) → ((q : ℕ) → same_word (scx q AllFrozen) (scx s.0 part) ≡ false) → value (history_of planting kept.rows) (scx s.0 part) ≡ value (past_of p []) (scx s.0 part)
+    word_kept : (part : ScxWord) → ((q : ℕ) → same_word (scx q StateWord) (scx s.0 part) ≡ false) → ((q : ℕ) → same_word (scx q AllFrozen) (scx s.0 part) ≡ false) → value (history_of planting kept.run.rows) (scx s.0 part) ≡ value (past_of p []) (scx s.0 part)
     word_kept part no_state no_flag =
         let owned = own allows t planting st kept id me.0 fits p one in
         ap (λ l. value (history_of planting l) (scx s.0 part)) owned.2.1
-        ∙ own_word_behind t.lay planting p.number.0 s.0 part owned.2.0 p.known (subst (λ l. Lawful t.lay (history_of planting l)) owned.2.1 kept.sound.lawful) owned.2.2 mine.0.0 no_state no_flag
+        ∙ own_word_behind t.lay planting p.number.0 s.0 part owned.2.0 p.known (subst (λ l. Lawful t.lay (history_of planting l)) owned.2.1 kept.run.sound.lawful) owned.2.2 mine.0.0 no_state no_flag
         ∙ ap (λ (g : Plot). value (history_of g.planting p.known) (scx s.0 part)) (sym owned.1)
 
-    member_kept : (j : ℕ) → member (history_of planting kept.rows) s.0 j ≡ member (past_of p []) s.0 j
+    member_kept : (j : ℕ) → member (history_of planting kept.run.rows) s.0 j ≡ member (past_of p []) s.0 j
     member_kept j = word_kept (Member j) (λ q. scx_word_apart q s.0 StateWord (Member j) refl) (λ q. scx_word_apart q s.0 AllFrozen (Member j) refl)
 
-    count_kept : count (history_of planting kept.rows) s.0 ≡ count (past_of p []) s.0
+    count_kept : count (history_of planting kept.run.rows) s.0 ≡ count (past_of p []) s.0
     count_kept = ap count_of (word_kept Plan (λ q. scx_word_apart q s.0 StateWord Plan refl) (λ q. scx_word_apart q s.0 AllFrozen Plan refl))
 
     -- one note more
@@ -187,7 +187,7 @@ module _ (allows : Layout → History → ℕ → Type 0) (t : Lasting) (plantin
         keeps,
         tt,
         noted allows t planting stays st kept id me.0 fits p one at p.memory refl refl refl (recalls st kept fits).names,
-        ((kept.rows, learnt allows t planting st kept id me.0 fits p one (rw (eq-eqb found s.0 e) refl)), refl),
+        ((kept.run.rows, learnt allows t planting st kept id me.0 fits p one (rw (eq-eqb found s.0 e) refl)), refl),
       )
       go (no d) = (
         seat_view (aware allows t planting st kept id me.0 fits p one (record p.memory { notes = noted_as (Scx s) (DoneWith j) ∷ p.memory.notes }) ∷ []),
@@ -195,7 +195,7 @@ module _ (allows : Layout → History → ℕ → Type 0) (t : Lasting) (plantin
         tt,
         noted allows t planting stays st kept id me.0 fits p one at record p.memory { notes = noted_as (Scx s) (DoneWith j) ∷ p.memory.notes } refl refl refl
             (with_note st kept fits (noted_as (Scx s) (DoneWith j)) (done_with allows t planting stays st kept s.0 j n (real st kept fits) (finished st kept fits) (member_kept st kept fits j ∙ is) d)),
-        ((kept.rows, learnt allows t planting st kept id me.0 fits p one (rw (ne_eqb found s.0 d) refl)), refl),
+        ((kept.run.rows, learnt allows t planting st kept id me.0 fits p one (rw (ne_eqb found s.0 d) refl)), refl),
       )
 
   -- what the pass knows to be so without a look, at a load of any word
@@ -203,23 +203,23 @@ module _ (allows : Layout → History → ℕ → Type 0) (t : Lasting) (plantin
   lasting_done at j x st kept sized fits small =
       let owned = own allows t planting st kept id me.0 fits p one in
       let y : WasDoneWith t.lay (history_of planting p.known) s.0 j = subst (λ (g : Plot). WasDoneWith g.layout (history_of g.planting p.known) s.0 j) owned.1 x in
-      let so : WasDoneWith t.lay (history_of planting kept.rows) s.0 j = (y.0, ends_trans (history_of planting kept.rows) (history_of planting p.known) y.0 (behind_known allows t planting st kept id me.0 fits p one) y.1, y.2, y.3) in (
+      let so : WasDoneWith t.lay (history_of planting kept.run.rows) s.0 j = (y.0, ends_trans (history_of planting kept.run.rows) (history_of planting p.known) y.0 (behind_known allows t planting st kept id me.0 fits p one) y.1, y.2, y.3) in (
         seat_view (aware allows t planting st kept id me.0 fits p one (memory_done p.memory s j) ∷ []),
         keeps,
         tt,
         noted allows t planting stays st kept id me.0 fits p one at (memory_done p.memory s j) refl refl refl (with_note st kept fits (noted_as (Scx s) (DoneWith j)) so),
-        ((kept.rows, learnt allows t planting st kept id me.0 fits p one refl), refl),
+        ((kept.run.rows, learnt allows t planting st kept id me.0 fits p one refl), refl),
       )
 
   -- it is dead once it was done with each of its nodes, at a load of any word
   pub lasting_over : Looks t.lay → (at : ℕ) → ((j : ℕ) → j < count (past_of p []) s.0 → IsIn (noted_as (Scx s) (DoneWith j)) p.memory.notes) → Allows (TableLasts allows t planting) slots id me at (λ v. v) (λ v w. LearnsWith allows (memory_over p.memory s) me.0 w.0 × (w.1 ≡ me.1))
   lasting_over looks at all st kept sized fits small =
-      let h : History = history_of planting kept.rows in
+      let h : History = history_of planting kept.run.rows in
       let done : (j : ℕ) → j < count h s.0 → WasDoneWith t.lay h s.0 j = λ j less. in_each (λ n. IsNoteSo t.lay planting p.number.0 (before st kept fits) (record_at n.name) n.note) (noted_as (Scx s) (DoneWith j)) p.memory.notes (all j (subst (λ c. j < c) (count_kept st kept fits) less)) (recalls st kept fits).names.notes in
-      let dead : IsLetGoScx t.lay h s.0 = record { real = real st kept fits; taken = was_taken st kept fits; finished = finished st kept fits; named = looks h s.0 kept.window.run (real st kept fits) done } in (
-        seat_view (aware allows t planting st kept id me.0 fits p one (memory_over p.memory s kept.rows) ∷ []),
+      let dead : IsLetGoScx t.lay h s.0 = record { real = real st kept fits; taken = was_taken st kept fits; finished = finished st kept fits; named = looks h s.0 kept.run.window.run (real st kept fits) done } in (
+        seat_view (aware allows t planting st kept id me.0 fits p one (memory_over p.memory s kept.run.rows) ∷ []),
         keeps,
         tt,
-        noted allows t planting stays st kept id me.0 fits p one at (memory_over p.memory s kept.rows) refl refl refl (with_note st kept fits (noted_as (Scx s) (MarkedOrDead kept.rows)) (ends_self h, inr (dead, tt))),
-        ((kept.rows, learnt allows t planting st kept id me.0 fits p one refl), refl),
+        noted allows t planting stays st kept id me.0 fits p one at (memory_over p.memory s kept.run.rows) refl refl refl (with_note st kept fits (noted_as (Scx s) (MarkedOrDead kept.run.rows)) (ends_self h, inr (dead, tt))),
+        ((kept.run.rows, learnt allows t planting st kept id me.0 fits p one refl), refl),
       )

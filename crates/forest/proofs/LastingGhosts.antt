@@ -14,10 +14,11 @@ use Rattle.slots.specs.Window.{IsWindow}
 use Rattle.slots.proofs.Lemmas.{seen_moves}
 use Rattle.forest.specs.Passes.{Each}
 use Rattle.forest.specs.TableRule.{Owns, history_of, seat_view, seated_pass}
-use Rattle.forest.specs.LastingMemory.{AreHeldOrGone, Present, RememberWell, RemembersNames, RemembersWell, present}
+use Rattle.forest.specs.LastingMemory.{IsNoteSo, Present, RememberWell, RemembersNames, RemembersWell, present, record_at}
 use Rattle.forest.specs.LastingNotes.{IsIn}
-use Rattle.forest.specs.LastingRule.{TableLasts, plot_in}
+use Rattle.forest.specs.LastingRule.{TableLasts, WordsLast, plot_in}
 use Rattle.forest.specs.declared.view.SeatView.{SeatView}
+use Rattle.forest.specs.declared.memory.Noted.{Noted}
 use Rattle.forest.specs.declared.memory.PassMemory.{PassMemory}
 use Rattle.forest.specs.declared.view.SeatedPass.{SeatedPass}
 use Rattle.forest.proofs.LastingKept.{Later, Spares, StaysUnborn, remember_kept, remembers_kept, spared, views_kept}
@@ -45,45 +46,35 @@ module _ (allows : Layout → History → ℕ → Type 0) (t : Lasting) (plantin
   abbrev pub seen_by : List Row → PassMemory → State ℕ SeatView
   seen_by rows after = record { words = slice_set s.words at (slice_index s.words at); homes = s.homes; views = slice_set s.views id (seat_view (seated_pass p.number.0 p.layout p.planting after rows ∷ [])) }
 
-  module _ (words : List ℕ) (rows : List Row) (next : ℕ → History) (held : Held) (after : PassMemory)
-      (sound : IsRun allows t.lay (history_of planting rows))
-      (window : IsWindow t words (history_of planting rows) next held)
-      (counts : CountsRests t words (history_of planting rows) kept.tally)
-      (later : Later t before (present words (history_of planting rows) next held kept.tally))
-      (rests : (q : ℕ) → q ≢ p.number.0 → kept.tally.away q ≡ false → next q ≡ kept.last q)
-      (gone : AreHeldOrGone t (present words (history_of planting rows) next held kept.tally))
-      (mine : RemembersWell t planting (present words (history_of planting rows) next held kept.tally) p.number.0 after)
-      (spares : (q : ℕ) → q ≢ p.number.0 → Spares t planting before (present words (history_of planting rows) next held kept.tally) later stays q)
-      (grows : (j : ℕ) → j ≢ id → (ps : List SeatedPass) → Owns (plot_in t planting) kept.rows kept.owner j ps → Owns (plot_in t planting) rows kept.owner j ps) where
+  module _ (words : List ℕ) (run : WordsLast allows t planting words) (after : PassMemory)
+      (later : Later t before (present words (history_of planting run.rows) run.last run.held run.tally))
+      (others_count : (q : ℕ) → q ≢ p.number.0 → (run.tally.away q ≡ kept.run.tally.away q) × (run.tally.count q ≡ kept.run.tally.count q))
+      (rests : (q : ℕ) → q ≢ p.number.0 → kept.run.tally.away q ≡ false → run.last q ≡ kept.run.last q)
+      (mine : RemembersWell t planting (present words (history_of planting run.rows) run.last run.held run.tally) p.number.0 after)
+      (spares : (q : ℕ) → q ≢ p.number.0 → Spares t planting before (present words (history_of planting run.rows) run.last run.held run.tally) later stays q)
+      (grows : (j : ℕ) → j ≢ id → (ps : List SeatedPass) → Owns (plot_in t planting) kept.run.rows kept.owner j ps → Owns (plot_in t planting) run.rows kept.owner j ps) where
     abbrev there : Present
-    there = present words (history_of planting rows) next held kept.tally
+    there = present words (history_of planting run.rows) run.last run.held run.tally
 
     abbrev w : SeatView
-    w = seat_view (seated_pass p.number.0 p.layout p.planting after rows ∷ [])
+    w = seat_view (seated_pass p.number.0 p.layout p.planting after run.rows ∷ [])
 
-    owned : Owns (plot_in t planting) kept.rows kept.owner id (p ∷ [])
+    owned : Owns (plot_in t planting) kept.run.rows kept.owner id (p ∷ [])
     owned = own allows t planting s kept id v fits p one
 
     others : (q : ℕ) (n : PassMemory) → q ≢ p.number.0 → RemembersWell t planting before q n → RemembersWell t planting there q n
-    others q n d y = remembers_kept t planting before there later stays q n (spares q d) refl refl (rests q d) y
+    others q n d y = remembers_kept t planting before there later stays q n (spares q d) (others_count q d).0 (others_count q d).1 (rests q d) y
 
     -- the pass knows the run by then, and remembers so much
     pub goes_on : TableLasts allows t planting record { words = words; homes = s.homes; views = slice_set s.views id w }
     goes_on = record {
-      rows = rows;
-      last = next;
-      held = held;
-      tally = kept.tally;
-      sound = sound;
-      window = window;
-      counts = counts;
-      gone = gone;
+      run = run;
       owner = kept.owner;
-      passes = views_kept (λ j u. Owns (plot_in t planting) kept.rows kept.owner j u.passes) (λ j u. Owns (plot_in t planting) rows kept.owner j u.passes) s.views id w
+      passes = views_kept (λ j u. Owns (plot_in t planting) kept.run.rows kept.owner j u.passes) (λ j u. Owns (plot_in t planting) run.rows kept.owner j u.passes) s.views id w
           (owned.0, owned.1, ([], refl, tt), tt, tt) (λ j u other fit y. grows j other u.passes y) kept.passes;
       memories = views_kept (λ j u. RememberWell t planting before u.passes) (λ j u. RememberWell t planting there u.passes) s.views id w
           (mine, tt)
-          (λ j u other fit y. remember_kept t planting before there (λ q. q ≢ p.number.0) others kept.rows kept.owner j (λ q is. apart allows t planting s kept id v fits p one j q other is) u.passes (kept.passes j u fit) y)
+          (λ j u other fit y. remember_kept t planting before there (λ q. q ≢ p.number.0) others kept.run.rows kept.owner j (λ q is. apart allows t planting s kept id v fits p one j q other is) u.passes (kept.passes j u fit) y)
           kept.memories;
     }
 
@@ -94,12 +85,16 @@ module _ (allows : Layout → History → ℕ → Type 0) (t : Lasting) (plantin
   recalls : RemembersWell t planting before p.number.0 p.memory
   recalls = well allows t planting s kept id v fits p one
 
+  -- of names it remembers these notes, and else what it did
+  pub with_notes : (notes : List Noted) → Each (λ n. IsNoteSo t.lay planting p.number.0 before (record_at n.name) n.note) notes → RemembersNames t planting before p.number.0 record p.memory { notes = notes }
+  with_notes notes so = let names = recalls.names in record { dealt = names.dealt; later = names.later; notes = so; polls = names.polls; holds = names.holds; empty = names.empty; zeros = names.zeros }
+
   -- a pass remembers more, and nothing else goes on
-  pub noted : (after : PassMemory) → after.rested ≡ p.memory.rested → after.away ≡ p.memory.away → after.often ≡ p.memory.often → RemembersNames t planting before p.number.0 after → TableLasts allows t planting (seen_by kept.rows after)
+  pub noted : (after : PassMemory) → after.rested ≡ p.memory.rested → after.away ≡ p.memory.away → after.often ≡ p.memory.often → RemembersNames t planting before p.number.0 after → TableLasts allows t planting (seen_by kept.run.rows after)
   noted after rested away often names =
-      let moved = moments_stay t (history_of planting kept.rows) kept.last kept.window.rested in
-      let later : Later t before before = later_moments t before kept.last kept.held moved kept.window in
-      as_loaded kept.rows after (goes_on s.words kept.rows kept.last kept.held after kept.sound kept.window kept.counts later (λ q d z. refl) kept.gone
+      let moved = moments_stay t (history_of planting kept.run.rows) kept.run.last kept.run.window.rested in
+      let later : Later t before before = later_moments t before kept.run.last kept.run.held moved kept.run.window in
+      as_loaded kept.run.rows after (goes_on s.words kept.run after later (λ q d. (refl, refl)) (λ q d z. refl)
       record {
         away = away ∙ recalls.away;
         often = often ∙ recalls.often;

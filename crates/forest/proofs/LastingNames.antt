@@ -62,13 +62,18 @@ module _ (allows : Layout → History → ℕ → Type 0) (t : Lasting) (plantin
         grows = λ j apart ps y. owns_more (plot_in t planting) rows owner j r (λ z. apart (sym z ∙ owned)) ps (x.grows j apart ps y);
       }
 
-  -- The pass may give a slot the name x next: nobody has taken that, and of the pass's own that it
-  -- has dealt by then each other one that is untaken was dealt before.
-  pub record IsReady (x : Record) (old new : PassMemory) (rows : List Row) : Type 0 where
+  -- the run has gone on by these rows, by which the pass, which is between two calls, passes over
+  -- names
+  pub record PassesOn (rows : List Row) : Type 0 where
     pub goes : GoesOn rows
     pub run : IsMapRun t.lay (history_of planting rows)
     pub over : AreFinished t.lay o 0 (history_of planting rows)
     pub passed : HasPassedOver t held last o h (history_of planting rows)
+
+  -- The pass may give a slot the name x next: nobody has taken that, and of the pass's own that it
+  -- has dealt by then each other one that is untaken was dealt before.
+  pub record IsReady (x : Record) (old new : PassMemory) (rows : List Row) : Type 0 where
+    pub so_far : PassesOn rows
     pub free : IsUntaken t.lay (history_of planting rows) x
     pub dealt : (y : Record) → IsOwnRecord t.lay o y → IsDealt new y → IsUntaken t.lay (history_of planting rows) y → (y ≡ x) ⊎ IsDealt old y
     pub undealt : (y : Record) → ¬ IsDealt new y → ¬ IsDealt old y
@@ -80,10 +85,7 @@ module _ (allows : Layout → History → ℕ → Type 0) (t : Lasting) (plantin
 
   -- the pass has passed over its nodes up to this one, which it takes next
   pub record PassedNodes (next : ℕ) (rows : List Row) : Type 0 where
-    pub goes : GoesOn rows
-    pub run : IsMapRun t.lay (history_of planting rows)
-    pub over : AreFinished t.lay o 0 (history_of planting rows)
-    pub passed : HasPassedOver t held last o h (history_of planting rows)
+    pub so_far : PassesOn rows
     pub taken : (n : ℕ) → IsOwnNode t.lay o n → n < next → IsTakenNode (history_of planting rows) n
     pub untaken : (n : ℕ) → IsOwnNode t.lay o n → next ≤ n → ¬ IsTakenNode (history_of planting rows) n
     pub unmentioned : (n : ℕ) → IsOwnNode t.lay o n → next ≤ n → IsUnmentioned (history_of planting rows) n
@@ -97,10 +99,10 @@ module _ (allows : Layout → History → ℕ → Type 0) (t : Lasting) (plantin
     r = row_over o Fill (node next (Settled Head)) 0 k
 
     free_node : ¬ IsTakenNode (last o) next
-    free_node taken = x.untaken next own (omega arith) (taken_node_since k (last o) next (x.goes.rested o is_pass).within taken)
+    free_node taken = x.untaken next own (omega arith) (taken_node_since k (last o) next (x.so_far.goes.rested o is_pass).within taken)
 
     both_node : IsMapRun t.lay (r ⊳ k) × HasPassedOver t held last o h (r ⊳ k)
-    both_node = passes_node t held last o h k next x.passed x.run is_pass record { own = own; in_order = x.taken; unnamed = unmentioned_unnamed t.lay k o next own (x.unmentioned next own (omega arith)) } free_node unheld
+    both_node = passes_node t held last o h k next x.so_far.passed x.so_far.run is_pass record { own = own; in_order = x.taken; unnamed = unmentioned_unnamed t.lay k o next own (x.unmentioned next own (omega arith)) } free_node unheld
 
     no_update : r.kind ≢ Update
     no_update e = let z : Fill ≡ Update = e in cc
@@ -118,14 +120,11 @@ module _ (allows : Layout → History → ℕ → Type 0) (t : Lasting) (plantin
     next_taken n own_too (no d) i = let e : n ≡ next = omega (arith, d, i) in subst (IsTakenNode (r ⊳ k)) (sym e) (fill_takes_node r k next (Settled Head) refl refl)
 
     next_never : (n : ℕ) → n ≡ next → IsOwnNode t.lay o n × (¬ WasInTree (r ⊳ k) n)
-    next_never n e = subst (λ i. IsOwnNode t.lay o i × (¬ WasInTree (r ⊳ k) i)) (sym e) (own, never_more t.lay k r next both_node.0 no_update (never_stood t.lay k next x.run (let a = own.from in omega (arith, a)) (x.untaken next own (omega arith))))
+    next_never n e = subst (λ i. IsOwnNode t.lay o i × (¬ WasInTree (r ⊳ k) i)) (sym e) (own, never_more t.lay k r next both_node.0 no_update (never_stood t.lay k next x.so_far.run (let a = own.from in omega (arith, a)) (x.untaken next own (omega arith))))
 
     passes_next : PassedNodes (suc next) (r ∷ rows)
     passes_next = record {
-      goes = row_more rows Fill (node next (Settled Head)) 0 x.goes both_node.0.1.lawful (λ e. let z : Fill ≡ Freeze = e in cc) (past_node next free_node refl refl);
-      run = both_node.0;
-      over = node_rests t.lay k o next x.over;
-      passed = both_node.1;
+      so_far = record { goes = row_more rows Fill (node next (Settled Head)) 0 x.so_far.goes both_node.0.1.lawful (λ e. let z : Fill ≡ Freeze = e in cc) (past_node next free_node refl refl); run = both_node.0; over = node_rests t.lay k o next x.so_far.over; passed = both_node.1 };
       taken = λ n own_too less. next_taken n own_too (dec_lt n next) less;
       untaken = λ n own_too more z. ⊎_elim (λ (e : n ≡ next). omega (arith, e, more)) (x.untaken n own_too (omega (arith, more))) (taken_then n z);
       unmentioned = λ n own_too more. unmentioned_by_fill k r n (λ z. absurd z) (x.unmentioned n own_too (omega (arith, more)));
@@ -144,10 +143,7 @@ module _ (allows : Layout → History → ℕ → Type 0) (t : Lasting) (plantin
 
   -- the pass has passed over its SCX-records up to this one, which it takes next
   pub record PassedScx (next : ℕ) (rows : List Row) : Type 0 where
-    pub goes : GoesOn rows
-    pub run : IsMapRun t.lay (history_of planting rows)
-    pub over : AreFinished t.lay o 0 (history_of planting rows)
-    pub passed : HasPassedOver t held last o h (history_of planting rows)
+    pub so_far : PassesOn rows
     pub taken : (s : ℕ) → IsOwnScx t.lay o s → s < next → IsTakenScx (history_of planting rows) s
     pub untaken : (s : ℕ) → IsOwnScx t.lay o s → next ≤ s → ¬ IsTakenScx (history_of planting rows) s
     pub others : (n : ℕ) → IsTakenNode (history_of planting rows) n → IsTakenNode h n
@@ -169,10 +165,10 @@ module _ (allows : Layout → History → ℕ → Type 0) (t : Lasting) (plantin
     real e = let a = own.from in omega (arith, a, e)
 
     free_scx : ¬ IsTakenScx (last o) next
-    free_scx taken = x.untaken next own (omega arith) (taken_scx_since k0 (last o) next (x.goes.rested o is_pass).within taken)
+    free_scx taken = x.untaken next own (omega arith) (taken_scx_since k0 (last o) next (x.so_far.goes.rested o is_pass).within taken)
 
     both_scx : IsMapRun t.lay (three ⊳ two ⊳ one ⊳ k0) × HasPassedOver t held last o h (three ⊳ two ⊳ one ⊳ k0)
-    both_scx = passes_scx t held last o h k0 next x.passed x.run is_pass record { own = own; in_order = x.taken; unnamed = λ z. x.untaken next own (omega arith) (named_scx_taken t.lay k0 next x.run.1.lawful real z) } free_scx unheld
+    both_scx = passes_scx t held last o h k0 next x.so_far.passed x.so_far.run is_pass record { own = own; in_order = x.taken; unnamed = λ z. x.untaken next own (omega arith) (named_scx_taken t.lay k0 next x.so_far.run.1.lawful real z) } free_scx unheld
 
     lawful_three : Lawful t.lay (three ⊳ two ⊳ one ⊳ k0)
     lawful_three = both_scx.0.1.lawful
@@ -185,7 +181,7 @@ module _ (allows : Layout → History → ℕ → Type 0) (t : Lasting) (plantin
 
     goes_three : GoesOn (three ∷ two ∷ one ∷ rows)
     goes_three = row_more (two ∷ one ∷ rows) Abort (state next) 2
-        (row_more (one ∷ rows) Fill (scx next (Seen 0)) next (row_more rows Fill (scx next Plan) 1 x.goes lawful_one (λ e. let z : Fill ≡ Freeze = e in cc) (past_scx next Plan own free_scx refl)) lawful_two (λ e. let z : Fill ≡ Freeze = e in cc) (past_scx next (Seen 0) own free_scx refl))
+        (row_more (one ∷ rows) Fill (scx next (Seen 0)) next (row_more rows Fill (scx next Plan) 1 x.so_far.goes lawful_one (λ e. let z : Fill ≡ Freeze = e in cc) (past_scx next Plan own free_scx refl)) lawful_two (λ e. let z : Fill ≡ Freeze = e in cc) (past_scx next (Seen 0) own free_scx refl))
         lawful_three (λ e. let z : Abort ≡ Freeze = e in cc) (past_scx next State own free_scx refl)
 
     scx_then : (s : ℕ) → IsTakenScx (three ⊳ two ⊳ one ⊳ k0) s → (s ≡ next) ⊎ IsTakenScx k0 s
@@ -214,10 +210,7 @@ module _ (allows : Layout → History → ℕ → Type 0) (t : Lasting) (plantin
 
     passes_next_scx : PassedScx (suc next) (three ∷ two ∷ one ∷ rows)
     passes_next_scx = record {
-      goes = goes_three;
-      run = both_scx.0;
-      over = scx_rests t.lay k0 o next x.over;
-      passed = both_scx.1;
+      so_far = record { goes = goes_three; run = both_scx.0; over = scx_rests t.lay k0 o next x.so_far.over; passed = both_scx.1 };
       taken = λ s own_too less. scx_taken s own_too (dec_lt s next) less;
       untaken = λ s own_too more z. ⊎_elim (λ (e : s ≡ next). omega (arith, e, more)) (x.untaken s own_too (omega (arith, more))) (scx_then s z);
       others = λ n z. x.others n (node_then n z);

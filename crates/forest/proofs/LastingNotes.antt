@@ -24,7 +24,7 @@ use Rattle.forest.specs.declared.memory.NoteView.TheVariants.{MarkedOrDead, Dead
 use Rattle.forest.specs.declared.rule.Plot.{Plot}
 use Rattle.forest.specs.declared.view.SeatedPass.{SeatedPass}
 use Rattle.forest.proofs.LastingKept.{StaysUnborn}
-use Rattle.forest.proofs.LastingGhosts.{in_each, noted}
+use Rattle.forest.proofs.LastingGhosts.{in_each, noted, with_notes}
 use Rattle.forest.proofs.LastingSeats.{aware, learnt, now, own, well}
 
 -- what is known of what is marked, and of periods
@@ -80,20 +80,13 @@ module _ (allows : Layout → History → ℕ → Type 0) (t : Lasting) (plantin
       let owned = own allows t planting s kept id me.0 fits p one in
       let same : p.planting ≡ planting = ap (λ (g : Plot). g.planting) owned.1 in
       let start : History = history_of planting snapshot in
-      let own_rest : Extends (kept.last o) start = subst (λ k. Extends k start) (sym (recalls.rested all.there)) (subst (λ g. Extends (history_of g p.memory.rested) (history_of g snapshot)) same all.own) in
-      let since : AreSince t.lay kept.last start = λ q i. rested_since t planting before p.memory snapshot recalls.names.polls o own_rest (λ k j d. let poll = all.others k j d in (poll.0, poll.1, subst (λ g. Extends (history_of g poll.0) (history_of g snapshot)) same poll.2)) q i (ℕ_discrete q o) in
+      let own_rest : Extends (kept.run.last o) start = subst (λ k. Extends k start) (sym (recalls.rested all.there)) (subst (λ g. Extends (history_of g p.memory.rested) (history_of g snapshot)) same all.own) in
+      let since : AreSince t.lay kept.run.last start = λ q i. rested_since t planting before p.memory snapshot recalls.names.polls o own_rest (λ k j d. let poll = all.others k j d in (poll.0, poll.1, subst (λ g. Extends (history_of g poll.0) (history_of g snapshot)) same poll.2)) q i (ℕ_discrete q o) in
       let names = recalls.names in (
-        seat_view (aware allows t planting s kept id me.0 fits p one (memory_noted p.memory chosen kept.rows) ∷ []),
+        seat_view (aware allows t planting s kept id me.0 fits p one (memory_noted p.memory chosen kept.run.rows) ∷ []),
         keeps,
         tt,
-        noted allows t planting stays s kept id me.0 fits p one at (memory_noted p.memory chosen kept.rows) refl refl refl record {
-          dealt = names.dealt;
-          later = names.later;
-          notes = notes_go_on t.lay planting known o is_pass kept.rows before refl kept.window.run kept.window.rested start (ends_trans (history_of planting kept.rows) (kept.last o) start (kept.window.rested o is_pass).within own_rest) since p.memory.notes chosen names.notes (subst (λ g. Each (λ n. IsIn n p.memory.notes × IsBefore g (history_of g snapshot) n.note) chosen) same picked);
-          polls = names.polls;
-          holds = names.holds;
-          empty = names.empty;
-          zeros = names.zeros;
-        },
-        ((kept.rows, learnt allows t planting s kept id me.0 fits p one refl), refl),
+        noted allows t planting stays s kept id me.0 fits p one at (memory_noted p.memory chosen kept.run.rows) refl refl refl
+            (with_notes allows t planting stays s kept id me.0 fits p one at (memory_noted p.memory chosen kept.run.rows).notes (notes_go_on t.lay planting known o is_pass kept.run.rows before refl kept.run.window.run kept.run.window.rested start (ends_trans (history_of planting kept.run.rows) (kept.run.last o) start (kept.run.window.rested o is_pass).within own_rest) since p.memory.notes chosen names.notes (subst (λ g. Each (λ n. IsIn n p.memory.notes × IsBefore g (history_of g snapshot) n.note) chosen) same picked))),
+        ((kept.run.rows, learnt allows t planting s kept id me.0 fits p one refl), refl),
       )

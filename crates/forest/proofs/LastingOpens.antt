@@ -64,35 +64,29 @@ module _ (allows : Layout → History → ℕ → Type 0) (t : Lasting) (plantin
     own_slot : (y : Record) → IsOwnRecord t.lay o y → IsHeld t held y → IsOwnRecord t.table o (slot_of t y)
     own_slot y own is = ⊎_elim (λ first. absurd (own_not_first t.lay o y own first)) (λ z. subst (λ q. IsOwnRecord t.table q (slot_of t y)) (one_record_owner t.lay z.0 o y z.2.0 own) z.2.1) ((first_names t x.lasting).own (slot_of t y) y is).name
 
+    -- Names of a kind are numbered on from the first of the pass's own, and so are the slots of its
+    -- first lap: so a name that one of these holds is of that lap.
+    held_in_lap : (the : ℕ → Record) → ((i j : ℕ) → the i ≡ the j → i ≡ j) → (first turned count : ℕ) → ((i : ℕ) → i < count → slot_of t (the (first + i)) ≡ the (turned + i)) → ((i : ℕ) → i < count → IsHeld t held (the (first + i)))
+        → (n k : ℕ) → slot_of t (the n) ≡ the k → turned ≤ k → k < turned + count → IsHeld t held (the n) → n < first + count
+    held_in_lap the one first turned count lap first_held n k slot from below is =
+        let i : ℕ = k - turned in
+        let small : i < count = omega (arith, from, below) in
+        let same_slot : slot_of t (the (first + i)) ≡ slot_of t (the n) = lap i small ∙ ap the (omega (arith, from)) ∙ sym slot in
+        let same : Some (the (first + i)) ≡ Some (the n) = sym (first_held i small) ∙ ap held same_slot ∙ is in
+        let number : first + i ≡ n = one (first + i) n (let q : the (first + i) ≡ the n = cc in q) in
+        omega (arith, number, small)
+
     in_lap : (y : Record) → IsOwnRecord t.lay o y → IsHeld t held y → IsDealt (first_memory t o) y
-    in_lap (the_node n) own is = go (own_slot (the_node n) own is)
-      where
-        go : IsOwnRecord t.table o (slot_of t (the_node n)) → n < first_node t.lay o + t.table.nodes
-        go slot =
-            let k : ℕ = n % t.node_turn in
-            let i : ℕ = k - first_node t.table o in
-            let from : first_node t.table o ≤ k = slot.from in
-            let below : k < first_node t.table o + t.table.nodes = slot.below in
-            let small : i < t.table.nodes = omega (arith, from, below) in
-            let lap : slot_of t (the_node (first_node t.lay o + i)) ≡ the_node (first_node t.table o + i) = ap (λ j. slot_of t (the_node j)) (omega arith) ∙ (node_lap t x.lasting o 0 i is_pass (omega arith) small).1 in
-            let same_slot : slot_of t (the_node (first_node t.lay o + i)) ≡ slot_of t (the_node n) = lap ∙ ap the_node (omega (arith, from)) in
-            let same : Some (the_node (first_node t.lay o + i)) ≡ Some (the_node n) = sym (first_nodes_held t x.lasting o i is_pass small) ∙ ap held same_slot ∙ is in
-            let number : first_node t.lay o + i ≡ n = cc in
-            omega (arith, number, small)
-    in_lap (the_scx s) own is = go (own_slot (the_scx s) own is)
-      where
-        go : IsOwnRecord t.table o (slot_of t (the_scx s)) → s < first_scx t.lay o + t.table.scx
-        go slot =
-            let k : ℕ = s % t.scx_turn in
-            let i : ℕ = k - first_scx t.table o in
-            let from : first_scx t.table o ≤ k = slot.from in
-            let below : k < first_scx t.table o + t.table.scx = slot.below in
-            let small : i < t.table.scx = omega (arith, from, below) in
-            let lap : slot_of t (the_scx (first_scx t.lay o + i)) ≡ the_scx (first_scx t.table o + i) = ap (λ j. slot_of t (the_scx j)) (omega arith) ∙ (scx_lap t x.lasting o 0 i is_pass (omega arith) small).1 in
-            let same_slot : slot_of t (the_scx (first_scx t.lay o + i)) ≡ slot_of t (the_scx s) = lap ∙ ap the_scx (omega (arith, from)) in
-            let same : Some (the_scx (first_scx t.lay o + i)) ≡ Some (the_scx s) = sym (first_scx_held t x.lasting o i is_pass small) ∙ ap held same_slot ∙ is in
-            let number : first_scx t.lay o + i ≡ s = cc in
-            omega (arith, number, small)
+    in_lap (the_node n) own is =
+        let slot = own_slot (the_node n) own is in
+        held_in_lap the_node (λ i j e. cc) (first_node t.lay o) (first_node t.table o) t.table.nodes
+        (λ i small. ap (λ j. slot_of t (the_node j)) (omega arith) ∙ (node_lap t x.lasting o 0 i is_pass (omega arith) small).1)
+        (λ i small. first_nodes_held t x.lasting o i is_pass small) n (n % t.node_turn) refl slot.from slot.below is
+    in_lap (the_scx s) own is =
+        let slot = own_slot (the_scx s) own is in
+        held_in_lap the_scx (λ i j e. cc) (first_scx t.lay o) (first_scx t.table o) t.table.scx
+        (λ i small. ap (λ j. slot_of t (the_scx j)) (omega arith) ∙ (scx_lap t x.lasting o 0 i is_pass (omega arith) small).1)
+        (λ i small. first_scx_held t x.lasting o i is_pass small) s (s % t.scx_turn) refl slot.from slot.below is
 
     first_well : RemembersWell t planting now o (first_memory t o)
     first_well = record {
@@ -120,14 +114,16 @@ module _ (allows : Layout → History → ℕ → Type 0) (t : Lasting) (plantin
 
   pub lasting_opens : TableLasts allows t planting (opening words [] (first_view t planting))
   lasting_opens = record {
-    rows = [];
-    last = λ o. start;
-    held = held;
-    tally = no_rests;
-    sound = x.run;
-    window = opens t x.lasting words (opening_for planting) held x.map (let room = x.room in omega (arith, room)) (first_names t x.lasting) x.holds;
-    counts = counts_open t words start x.room x.zeros;
-    gone = λ n z. absurd (none_taken planting n z);
+    run = record {
+      rows = [];
+      last = λ o. start;
+      held = held;
+      tally = no_rests;
+      sound = x.run;
+      window = opens t x.lasting words (opening_for planting) held x.map (let room = x.room in omega (arith, room)) (first_names t x.lasting) x.holds;
+      counts = counts_open t words start x.room x.zeros;
+      gone = λ n z. absurd (none_taken planting n z);
+    };
     owner = λ _. 0;
     passes = only (λ j v. Owns (plot_in t planting) [] (λ _. 0) j v.passes) (owns_new (first_memory t) (plot_in t planting) 0 t.lay.passes);
     memories = only (λ j v. RememberWell t planting now v.passes) (all_well 0 t.lay.passes (omega arith));

@@ -45,37 +45,37 @@ share_behind lay planting o left n s (r ∷ rs) known is_pass l by x = share_by_
 module _ (allows : Layout → History → ℕ → Type 0) (t : Lasting) (planting : PlantingView) (s : State ℕ SeatView) (kept : TableLasts allows t planting s) (id : ℕ) (v : SeatView) (fits : get_elem? s.views id ≡ some v) (p : SeatedPass) (one : v.passes ≡ p ∷ []) where
   -- where the table is
   abbrev pub now : Present
-  now = present s.words (history_of planting kept.rows) kept.last kept.held kept.tally
+  now = present s.words (history_of planting kept.run.rows) kept.run.last kept.run.held kept.run.tally
 
-  pub own : Owns (plot_in t planting) kept.rows kept.owner id (p ∷ [])
-  own = subst (λ ps. Owns (plot_in t planting) kept.rows kept.owner id ps) one (kept.passes id v fits)
+  pub own : Owns (plot_in t planting) kept.run.rows kept.owner id (p ∷ [])
+  own = subst (λ ps. Owns (plot_in t planting) kept.run.rows kept.owner id ps) one (kept.passes id v fits)
 
   pub well : RemembersWell t planting now p.number.0 p.memory
   well = (subst (RememberWell t planting now) one (kept.memories id v fits)).0
 
   -- the run is what the pass knows, and rows of others
-  pub here : past_of p own.2.0 ≡ history_of planting kept.rows
+  pub here : past_of p own.2.0 ≡ history_of planting kept.run.rows
   here = ap (λ (g : Plot). history_of g.planting (own.2.0 ++ p.known)) own.1 ∙ ap (history_of planting) (sym own.2.1)
 
   pub lay_is : p.layout ≡ t.lay
   lay_is = ap (λ (g : Plot). g.layout) own.1
 
   pub before : IsRun allows p.layout (past_of p own.2.0)
-  before = subst (λ l. IsRun allows l (past_of p own.2.0)) (sym lay_is) (subst (IsRun allows t.lay) (sym here) kept.sound)
+  before = subst (λ l. IsRun allows l (past_of p own.2.0)) (sym lay_is) (subst (IsRun allows t.lay) (sym here) kept.run.sound)
 
   -- it is still between two calls
-  pub over : AreFinished p.layout p.number.0 0 (past_of p []) → AreFinished t.lay p.number.0 0 (history_of planting kept.rows)
-  over x = subst (AreFinished t.lay p.number.0 0) here (finished_behind t.lay p.planting p.number.0 own.2.0 p.known (subst (Lawful t.lay) (sym here) kept.sound.lawful) own.2.2 (subst (λ l. AreFinished l p.number.0 0 (past_of p [])) lay_is x))
+  pub over : AreFinished p.layout p.number.0 0 (past_of p []) → AreFinished t.lay p.number.0 0 (history_of planting kept.run.rows)
+  over x = subst (AreFinished t.lay p.number.0 0) here (finished_behind t.lay p.planting p.number.0 own.2.0 p.known (subst (Lawful t.lay) (sym here) kept.run.sound.lawful) own.2.2 (subst (λ l. AreFinished l p.number.0 0 (past_of p [])) lay_is x))
 
   -- the pass when it knows the whole run, and remembers so much
   abbrev pub aware : PassMemory → SeatedPass
-  aware memory = seated_pass p.number.0 p.layout p.planting memory kept.rows
+  aware memory = seated_pass p.number.0 p.layout p.planting memory kept.run.rows
 
-  pub learnt : {after : List Row → PassMemory} {memory : PassMemory} → memory ≡ after kept.rows → HasLearnt allows after v.passes kept.rows (aware memory ∷ [])
+  pub learnt : {after : List Row → PassMemory} {memory : PassMemory} → memory ≡ after kept.run.rows → HasLearnt allows after v.passes kept.run.rows (aware memory ∷ [])
   learnt same = record { pass = p; others = own.2.0; was = one; by_others = own.2.2; rows_are = own.2.1; run = before; is = ap (λ memory. aware memory ∷ []) same }
 
   -- it is of its seat, whatever it remembers
-  pub owns_aware : (memory : PassMemory) → Owns (plot_in t planting) kept.rows kept.owner id (aware memory ∷ [])
+  pub owns_aware : (memory : PassMemory) → Owns (plot_in t planting) kept.run.rows kept.owner id (aware memory ∷ [])
   owns_aware memory = (own.0, own.1, ([], refl, tt), tt, tt)
 
   -- a pass of another seat is another
@@ -83,7 +83,7 @@ module _ (allows : Layout → History → ℕ → Type 0) (t : Lasting) (plantin
   apart j q other owned e = other (sym owned ∙ ap kept.owner e ∙ own.0)
 
   -- the run goes on from what the pass knows
-  pub behind_known : Extends (history_of planting kept.rows) (history_of planting p.known)
+  pub behind_known : Extends (history_of planting kept.run.rows) (history_of planting p.known)
   behind_known = subst (λ k. Extends (history_of planting k) (history_of planting p.known)) (sym own.2.1) (further own.2.0)
     where
       further : (others : List Row) → Extends (history_of planting (others ++ p.known)) (history_of planting p.known)
@@ -91,7 +91,7 @@ module _ (allows : Layout → History → ℕ → Type 0) (t : Lasting) (plantin
       further (r ∷ rs) = inr (further rs)
 
   -- its share is as it knows
-  pub share_now : (left : Remaining) → p.number.0 < t.lay.passes → IsShare p.layout (past_of p []) p.number.0 left left.next_node left.next_scx → IsShare t.lay (history_of planting kept.rows) p.number.0 left left.next_node left.next_scx
+  pub share_now : (left : Remaining) → p.number.0 < t.lay.passes → IsShare p.layout (past_of p []) p.number.0 left left.next_node left.next_scx → IsShare t.lay (history_of planting kept.run.rows) p.number.0 left left.next_node left.next_scx
   share_now left is_pass x = subst (λ l. IsShare t.lay (history_of planting l) p.number.0 left left.next_node left.next_scx) (sym own.2.1)
-      (share_behind t.lay planting p.number.0 left left.next_node left.next_scx own.2.0 p.known is_pass (subst (λ l. Lawful t.lay (history_of planting l)) own.2.1 kept.sound.lawful) own.2.2
+      (share_behind t.lay planting p.number.0 left left.next_node left.next_scx own.2.0 p.known is_pass (subst (λ l. Lawful t.lay (history_of planting l)) own.2.1 kept.run.sound.lawful) own.2.2
       (subst (λ (g : Plot). IsShare g.layout (history_of g.planting p.known) p.number.0 left left.next_node left.next_scx) own.1 x))

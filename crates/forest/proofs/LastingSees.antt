@@ -28,7 +28,7 @@ use Rattle.forest.specs.declared.memory.RecordNo.TheVariants.{Node}
 use Rattle.forest.specs.declared.rule.Plot.{Plot}
 use Rattle.forest.specs.declared.view.SeatedPass.{SeatedPass}
 use Rattle.forest.proofs.LastingKept.{StaysUnborn}
-use Rattle.forest.proofs.LastingGhosts.{in_each, noted}
+use Rattle.forest.proofs.LastingGhosts.{in_each, noted, with_notes}
 use Rattle.forest.proofs.LastingSeats.{aware, behind_known, learnt, now, own, well}
 use Rattle.forest.proofs.LastingSlots.{taken_since}
 
@@ -43,7 +43,7 @@ module _ (allows : Layout → History → ℕ → Type 0) (t : Lasting) (plantin
   lasting_marks n holds taken s kept sized fits small = go (ℕ_discrete found 0)
     where
       h : History
-      h = history_of planting kept.rows
+      h = history_of planting kept.run.rows
 
       at : ℕ
       at = table_place t (node n.0 Marked)
@@ -61,7 +61,7 @@ module _ (allows : Layout → History → ℕ → Type 0) (t : Lasting) (plantin
       mine = in_each (IsHeldName t p.number.0 before) (Node n) p.memory.holds holds recalls.names.holds
 
       shown : found ≡ value h (marked n.0)
-      shown = kept.window.shows (node n.0 Marked) (own_node_inside t.lay p.number.0 n.0 is_pass mine.0.0) mine.1
+      shown = kept.run.window.shows (node n.0 Marked) (own_node_inside t.lay p.number.0 n.0 is_pass mine.0.0) mine.1
 
       was_taken : IsTakenNode h n.0
       was_taken = taken_since h (history_of planting p.known) (the_node n.0) (behind_known allows t planting s kept id me.0 fits p one) (subst (λ (g : Plot). IsTakenNode (history_of g.planting p.known) n.0) (own allows t planting s kept id me.0 fits p one).1 taken)
@@ -72,24 +72,17 @@ module _ (allows : Layout → History → ℕ → Type 0) (t : Lasting) (plantin
         keeps,
         tt,
         noted allows t planting stays s kept id me.0 fits p one at p.memory refl refl refl recalls.names,
-        ((kept.rows, learnt allows t planting s kept id me.0 fits p one (rw (eq-eqb found 0 e) refl)), refl),
+        ((kept.run.rows, learnt allows t planting s kept id me.0 fits p one (rw (eq-eqb found 0 e) refl)), refl),
       )
       go (no d) =
           let names = recalls.names in
-          let after : PassMemory = record p.memory { notes = noted_as (Node n) (MarkedOrDead kept.rows) ∷ p.memory.notes } in (
+          let after : PassMemory = record p.memory { notes = noted_as (Node n) (MarkedOrDead kept.run.rows) ∷ p.memory.notes } in (
             seat_view (aware allows t planting s kept id me.0 fits p one (after) ∷ []),
             keeps,
             tt,
-            noted allows t planting stays s kept id me.0 fits p one at after refl refl refl record {
-              dealt = names.dealt;
-              later = names.later;
-              notes = ((ends_self h, inl record { taken = was_taken; mark = λ z. d (shown ∙ z) }), names.notes);
-              polls = names.polls;
-              holds = names.holds;
-              empty = names.empty;
-              zeros = names.zeros;
-            },
-            ((kept.rows, learnt allows t planting s kept id me.0 fits p one (rw (ne_eqb found 0 d) refl)), refl),
+            noted allows t planting stays s kept id me.0 fits p one at after refl refl refl
+                (with_notes allows t planting stays s kept id me.0 fits p one at after.notes ((ends_self h, inl record { taken = was_taken; mark = λ z. d (shown ∙ z) }), names.notes)),
+            ((kept.run.rows, learnt allows t planting s kept id me.0 fits p one (rw (ne_eqb found 0 d) refl)), refl),
           )
 
   -- a name that was of no use to the pass as it rested, at a load of any word
@@ -98,26 +91,19 @@ module _ (allows : Layout → History → ℕ → Type 0) (t : Lasting) (plantin
       let before : Present = now allows t planting s kept id me.0 fits p one in
       let recalls : RemembersWell t planting before p.number.0 p.memory = well allows t planting s kept id me.0 fits p one in
       let names = recalls.names in
-      let here : IsUnused t.lay p.number.0 (record_at name) (kept.last p.number.0) = subst (IsUnused t.lay p.number.0 (record_at name)) (sym (recalls.rested there)) (subst (λ (g : Plot). IsUnused g.layout p.number.0 (record_at name) (history_of g.planting p.memory.rested)) (own allows t planting s kept id me.0 fits p one).1 unused) in (
+      let here : IsUnused t.lay p.number.0 (record_at name) (kept.run.last p.number.0) = subst (IsUnused t.lay p.number.0 (record_at name)) (sym (recalls.rested there)) (subst (λ (g : Plot). IsUnused g.layout p.number.0 (record_at name) (history_of g.planting p.memory.rested)) (own allows t planting s kept id me.0 fits p one).1 unused) in (
         seat_view (aware allows t planting s kept id me.0 fits p one (memory_unused p.memory name) ∷ []),
         keeps,
         tt,
-        noted allows t planting stays s kept id me.0 fits p one at (memory_unused p.memory name) refl refl refl record {
-          dealt = names.dealt;
-          later = names.later;
-          notes = (unused_out t.lay (history_of planting kept.rows) kept.last p.number.0 (record_at name) is_pass here, names.notes);
-          polls = names.polls;
-          holds = names.holds;
-          empty = names.empty;
-          zeros = names.zeros;
-        },
-        ((kept.rows, learnt allows t planting s kept id me.0 fits p one refl), refl),
+        noted allows t planting stays s kept id me.0 fits p one at (memory_unused p.memory name) refl refl refl
+            (with_notes allows t planting stays s kept id me.0 fits p one at (memory_unused p.memory name).notes (unused_out t.lay (history_of planting kept.run.rows) kept.run.last p.number.0 (record_at name) is_pass here, names.notes)),
+        ((kept.run.rows, learnt allows t planting s kept id me.0 fits p one refl), refl),
       )
 
   -- a node that has left with no mark, as the pass knows, at a load of any word
   pub lasting_left : (at : ℕ) (n : NodeNo) → HasLeftUnmarked (past_of p []) n.0 → Allows (TableLasts allows t planting) slots id me at (λ v. v) (λ v w. LearnsWith allows (λ rows. memory_left p.memory n p.known) me.0 w.0 × (w.1 ≡ me.1))
   lasting_left at n left s kept sized fits small =
-      let h : History = history_of planting kept.rows in
+      let h : History = history_of planting kept.run.rows in
       let then : History = history_of planting p.known in
       let names = (well allows t planting s kept id me.0 fits p one).names in
       let within : Extends h then = behind_known allows t planting s kept id me.0 fits p one in
@@ -125,16 +111,9 @@ module _ (allows : Layout → History → ℕ → Type 0) (t : Lasting) (plantin
         seat_view (aware allows t planting s kept id me.0 fits p one (memory_left p.memory n p.known) ∷ []),
         keeps,
         tt,
-        noted allows t planting stays s kept id me.0 fits p one at (memory_left p.memory n p.known) refl refl refl record {
-          dealt = names.dealt;
-          later = names.later;
-          notes = ((within, inr (inr (inl here), inr (inl (left_since t.lay h then n.0 kept.window.run within here.left)))), names.notes);
-          polls = names.polls;
-          holds = names.holds;
-          empty = names.empty;
-          zeros = names.zeros;
-        },
-        ((kept.rows, learnt allows t planting s kept id me.0 fits p one refl), refl),
+        noted allows t planting stays s kept id me.0 fits p one at (memory_left p.memory n p.known) refl refl refl
+            (with_notes allows t planting stays s kept id me.0 fits p one at (memory_left p.memory n p.known).notes ((within, inr (inr (inl here), inr (inl (left_since t.lay h then n.0 kept.run.window.run within here.left)))), names.notes)),
+        ((kept.run.rows, learnt allows t planting s kept id me.0 fits p one refl), refl),
       )
 
   -- a load of a word of a name that an own slot holds
@@ -143,16 +122,16 @@ module _ (allows : Layout → History → ℕ → Type 0) (t : Lasting) (plantin
       let before : Present = now allows t planting s kept id me.0 fits p one in
       let recalls : RemembersWell t planting before p.number.0 p.memory = well allows t planting s kept id me.0 fits p one in
       let mine : IsHeldName t p.number.0 before name = in_each (IsHeldName t p.number.0 before) name p.memory.holds holds recalls.names.holds in
-      let shown : slice_index s.words (table_place t u) ≡ value (history_of planting kept.rows) u = kept.window.shows u inside (subst (IsHeld t kept.held) (sym of_name) mine.1) in (
+      let shown : slice_index s.words (table_place t u) ≡ value (history_of planting kept.run.rows) u = kept.run.window.shows u inside (subst (IsHeld t kept.run.held) (sym of_name) mine.1) in (
         seat_view (aware allows t planting s kept id me.0 fits p one p.memory ∷ []),
         keeps,
         tt,
         noted allows t planting stays s kept id me.0 fits p one (table_place t u) p.memory refl refl refl recalls.names,
         (
           record {
-            rows = kept.rows;
+            rows = kept.run.rows;
             learnt = learnt allows t planting s kept id me.0 fits p one refl;
-            value = subst (λ (g : PlantingView). value (history_of g kept.rows) u ≡ slice_index s.words (table_place t u)) (sym (ap (λ (g : Plot). g.planting) (own allows t planting s kept id me.0 fits p one).1)) (sym shown);
+            value = subst (λ (g : PlantingView). value (history_of g kept.run.rows) u ≡ slice_index s.words (table_place t u)) (sym (ap (λ (g : Plot). g.planting) (own allows t planting s kept id me.0 fits p one).1)) (sym shown);
           },
           refl,
         ),

@@ -60,14 +60,14 @@ not_gone lay h last n run rested stays there (inl final) = true≢false (sym fin
 not_gone lay h last n run rested stays there (inr (inl left)) = left.out there
 not_gone lay h last n run rested stays there (inr (inr z)) = (stays h z.0 (last z.0) n z.1 run (rested z.0 z.1) z.2).never (stands h n there)
 
-module _ (allows : Layout → History → ℕ → Type 0) (t : Lasting) (planting : PlantingView) (stays : StaysUnborn t.lay) (s : State ℕ SeatView) (kept : TableLasts allows t planting s) (n : ℕ) (there : IsInTree (history_of planting kept.rows) n) where
-  pub tree_held : IsHeld t kept.held (the_node n)
-  tree_held = go (taken_discrete (history_of planting kept.rows) n) (dec_lt n (opening_nodes t.lay))
+module _ (allows : Layout → History → ℕ → Type 0) (t : Lasting) (planting : PlantingView) (stays : StaysUnborn t.lay) (s : State ℕ SeatView) (kept : TableLasts allows t planting s) (n : ℕ) (there : IsInTree (history_of planting kept.run.rows) n) where
+  pub tree_held : IsHeld t kept.run.held (the_node n)
+  tree_held = go (taken_discrete (history_of planting kept.run.rows) n) (dec_lt n (opening_nodes t.lay))
     where
-      go : Dec (IsTakenNode (history_of planting kept.rows) n) → Dec (n < opening_nodes t.lay) → IsHeld t kept.held (the_node n)
-      go (yes taken) d = ⊎_elim (λ is. is) (λ g. absurd (not_gone t.lay (history_of planting kept.rows) kept.last n kept.window.run kept.window.rested stays there g)) (kept.gone n taken)
-      go (no free) (yes first) = kept.window.names.first (the_node n) first
-      go (no free) (no late) = absurd (never_stood t.lay (history_of planting kept.rows) n kept.window.run (omega (arith, late)) free (stands (history_of planting kept.rows) n there))
+      go : Dec (IsTakenNode (history_of planting kept.run.rows) n) → Dec (n < opening_nodes t.lay) → IsHeld t kept.run.held (the_node n)
+      go (yes taken) d = ⊎_elim (λ is. is) (λ g. absurd (not_gone t.lay (history_of planting kept.run.rows) kept.run.last n kept.run.window.run kept.run.window.rested stays there g)) (kept.run.gone n taken)
+      go (no free) (yes first) = kept.run.window.names.first (the_node n) first
+      go (no free) (no late) = absurd (never_stood t.lay (history_of planting kept.run.rows) n kept.run.window.run (omega (arith, late)) free (stands (history_of planting kept.run.rows) n there))
 
-  pub tree_shown : (part : NodeWord) → IsWord t.lay (node n part) → slice_index s.words (table_place t (node n part)) ≡ value (history_of planting kept.rows) (node n part)
-  tree_shown part inside = kept.window.shows (node n part) inside tree_held
+  pub tree_shown : (part : NodeWord) → IsWord t.lay (node n part) → slice_index s.words (table_place t (node n part)) ≡ value (history_of planting kept.run.rows) (node n part)
+  tree_shown part inside = kept.run.window.shows (node n part) inside tree_held

@@ -12,7 +12,7 @@ use Rattle.slots.specs.Passing.{row_over}
 use Rattle.forest.specs.TableRule.{history_of, past_of}
 use Rattle.forest.specs.LastingMemory.{record_at}
 use Rattle.forest.specs.LastingNotes.{IsIn}
-use Rattle.forest.specs.LastingSlots.{without}
+use Rattle.forest.specs.LastingSlots.{of_others, without}
 use Rattle.forest.specs.declared.memory.PassMemory.{PassMemory}
 use Rattle.forest.specs.declared.memory.RecordNo.{RecordNo}
 use Rattle.forest.specs.declared.memory.RecordNo.TheVariants.{Node, Scx}
@@ -37,8 +37,7 @@ past_scxs o from (suc count) planting rows = past_scxs o (suc from) count planti
 
 -- these words without those of that record
 abbrev pub without_words : Record → List Word → List Word
-without_words x [] = []
-without_words x (w ∷ ws) = if same_record (record_of w) x then without_words x ws else w ∷ without_words x ws
+without_words = of_others record_of
 
 -- the name of a node that is so many behind those that are dealt
 abbrev pub node_ahead : PassMemory → ℕ → RecordNo

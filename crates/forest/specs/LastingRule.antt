@@ -24,21 +24,25 @@ use Rattle.forest.specs.declared.view.SeatedPass.{SeatedPass}
 abbrev pub plot_in : Lasting → PlantingView → Plot
 plot_in t planting = record { layout = t.lay; planting = planting }
 
--- The words are a window on some lawful run, and count the rests of all passes; each pass knows a
--- beginning of the run, after which are rows of others alone; each node that was taken is held, or
--- gone; and what passes remember is so.
-pub record TableLasts (allows : Layout → History → ℕ → Type 0) (t : Lasting) (planting : PlantingView) (s : State ℕ SeatView) : Type 0 where
+-- The words are a window on some lawful run, and count the rests of all passes; and each node that
+-- was taken is held, or gone.
+pub record WordsLast (allows : Layout → History → ℕ → Type 0) (t : Lasting) (planting : PlantingView) (words : List ℕ) : Type 0 where
   pub rows : List Row
   pub last : ℕ → History
   pub held : Held
   pub tally : Tally
   pub sound : IsRun allows t.lay (history_of planting rows)
-  pub window : IsWindow t s.words (history_of planting rows) last held
-  pub counts : CountsRests t s.words (history_of planting rows) tally
-  pub gone : AreHeldOrGone t (present s.words (history_of planting rows) last held tally)
+  pub window : IsWindow t words (history_of planting rows) last held
+  pub counts : CountsRests t words (history_of planting rows) tally
+  pub gone : AreHeldOrGone t (present words (history_of planting rows) last held tally)
+
+-- It is so of the words; each pass knows a beginning of the run, after which are rows of others
+-- alone; and what passes remember is so.
+pub record TableLasts (allows : Layout → History → ℕ → Type 0) (t : Lasting) (planting : PlantingView) (s : State ℕ SeatView) : Type 0 where
+  pub run : WordsLast allows t planting s.words
   pub owner : ℕ → ℕ
-  pub passes : (id : ℕ) (v : SeatView) → get_elem? s.views id ≡ some v → Owns (plot_in t planting) rows owner id v.passes
-  pub memories : (id : ℕ) (v : SeatView) → get_elem? s.views id ≡ some v → RememberWell t planting (present s.words (history_of planting rows) last held tally) v.passes
+  pub passes : (id : ℕ) (v : SeatView) → get_elem? s.views id ≡ some v → Owns (plot_in t planting) run.rows owner id v.passes
+  pub memories : (id : ℕ) (v : SeatView) → get_elem? s.views id ≡ some v → RememberWell t planting (present s.words (history_of planting run.rows) run.last run.held run.tally) v.passes
 
 -- what the step fills is dealt
 abbrev pub FillsDealt : CallStep → PassMemory → Type 0

@@ -14,10 +14,14 @@ abbrev pub slot_number : Lasting → RecordNo → RecordNo
 slot_number t (Node n) = Node record { 0 = n.0 % t.node_turn }
 slot_number t (Scx s) = Scx record { 0 = s.0 % t.scx_turn }
 
+-- those of these that are of other records
+abbrev pub of_others : {A : Type 0} → (A → Record) → Record → List A → List A
+of_others of x [] = []
+of_others of x (a ∷ xs) = if same_record (of a) x then of_others of x xs else a ∷ of_others of x xs
+
 -- these names without that one
 abbrev pub without : Record → List RecordNo → List RecordNo
-without x [] = []
-without x (n ∷ ns) = if same_record (record_at n) x then without x ns else n ∷ without x ns
+without = of_others record_at
 
 -- What is remembered once the slot of the name holds nothing, and names up to these two are dealt;
 -- and if as many are dealt as before.
@@ -45,8 +49,3 @@ IsNotBefore left (the_scx s) = left.next_scx ≤ s
 -- what is remembered once this word is 0
 abbrev pub memory_cleared : PassMemory → Word → PassMemory
 memory_cleared m u = record m { zeros = u ∷ m.zeros }
-
--- the record was taken
-abbrev pub WasTaken : History → Record → Type 0
-WasTaken h (the_node n) = IsTakenNode h n
-WasTaken h (the_scx s) = IsTakenScx h s

@@ -24,12 +24,12 @@ ghost use Rattle.resting.specs.Dead.{HasLeftUnmarked, WasDoneWith};
 ghost use Rattle.resting.specs.Records.{record_of, the_node};
 ghost use Rattle.slots.specs.Counts.{rests_place};
 ghost use Rattle.slots.specs.Held.{IsHeld};
-ghost use Rattle.slots.specs.Lasting.{Lasting, table_place};
+ghost use Rattle.slots.specs.Lasting.{IsTaken, Lasting, table_place};
 ghost use Rattle.forest.specs.LastingMemory.{record_at};
 ghost use Rattle.forest.specs.LastingNames.{MayTake, memory_with_node, memory_with_scx, node_ahead, past_nodes, past_scxs, scx_ahead};
 ghost use Rattle.forest.specs.LastingNotes.{memory_left, HasRestedSince, IsBefore, IsIn, IsUnused, memory_away, memory_done, memory_looked, memory_looked_at, memory_marked, memory_noted, memory_over, memory_polled, memory_rested, memory_unused, noted_as};
 ghost use Rattle.forest.specs.LastingRule.{LoadsWord, GoesOnWith, LearnsWith, MayStepOn, TableLasts};
-ghost use Rattle.forest.specs.LastingSlots.{WasTaken, IsLastDealt, IsNotBefore, memory_cleared, memory_given_back, memory_let_go};
+ghost use Rattle.forest.specs.LastingSlots.{IsLastDealt, IsNotBefore, memory_cleared, memory_given_back, memory_let_go};
 ghost use Rattle.forest.specs.LastingOpening.{OpensLasting, first_view};
 ghost use Rattle.forest.specs.Passes.{Each};
 ghost use Rattle.forest.specs.TableRule.{Made, first_of_seat, history_of, joined_seat, past_of, rest_of_seat, seat_view};
@@ -126,7 +126,7 @@ pub fn slots_last<S: Shape>()
         (planting : PlantingView) (slots id : ℕ) (me : Me ℕ SeatView) (p : SeatedPass) (at : ℕ)
         (name : RecordNo) → me.0.passes ≡ p ∷ [] → IsIn name p.memory.holds
         → IsIn (noted_as name NoteView.OutOfReach) p.memory.notes
-        → WasTaken (past_of p []) (record_at name)
+        → IsTaken (past_of p []) (record_at name)
         → Allows (TableLasts S.allows t planting) slots id me at (λ n. n)
         (λ n w. LearnsWith S.allows (λ rows. memory_let_go t p.memory name) me.0 w.0
         × (w.1 ≡ me.1)) }
@@ -273,12 +273,12 @@ pub fn finished_last<S: Shape>()
 pub fn trees_last<S: Shape>()
     ensures held { (t : Lasting) (planting : PlantingView) (s : State ℕ SeatView)
         (x : TableLasts S.allows t planting s) (n : ℕ)
-        → IsInTree (history_of planting x.rows) n → IsHeld t x.held (the_node n) }
+        → IsInTree (history_of planting x.run.rows) n → IsHeld t x.run.held (the_node n) }
     ensures words { (t : Lasting) (planting : PlantingView) (s : State ℕ SeatView)
         (x : TableLasts S.allows t planting s) (n : ℕ) (part : NodeWord)
-        → IsInTree (history_of planting x.rows) n → IsWord t.lay (node n part)
+        → IsInTree (history_of planting x.run.rows) n → IsWord t.lay (node n part)
         → slice_index s.words (table_place t (node n part))
-        ≡ value (history_of planting x.rows) (node n part) }
+        ≡ value (history_of planting x.run.rows) (node n part) }
 {
     unborn_stays_out();
 }
