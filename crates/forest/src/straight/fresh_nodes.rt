@@ -111,9 +111,8 @@ fn fill<S: Shape, M: CallMachine<S>, E: Edit + Copy>(
     node.piece.behind(part)
 }
 
-/// Fills the high half of the value in this slot, if that is not 0. It is the one of the words of a
-/// pair that may be left out, and what comes next is the same with it and without it: so it has a
-/// function of its own, and what comes next is asked once.
+/// Fills the high half of the value in this slot, if that is not 0. With it and without it the same
+/// comes next: so it has a function of its own, behind which that is asked once.
 #[inline(always)]
 fn fill_high<S: Shape, M: CallMachine<S>, E: Edit + Copy>(
     hand: Hand<S>,
@@ -241,8 +240,8 @@ fn fill_last_pairs<S: Shape, M: CallMachine<S>, E: Edit + Copy>(
     fill_pair::<S, M, E>(hand, seat, run, node, Slot::Fourth)
 }
 
-/// Fills the pairs of a leaf, where the key of the first is the word that is filled next. It leaves
-/// off at the first slot that comes not next, so that the compiler asks once behind each pair.
+/// Fills the pairs of a leaf, where the key of the first is the word that is filled next. It ends
+/// at the first slot that does not come next, so that the compiler asks once behind each pair.
 #[inline(always)]
 fn fill_pairs<S: Shape, M: CallMachine<S>, E: Edit + Copy>(
     hand: Hand<S>,
