@@ -50,6 +50,11 @@ module _ {S T M A E : Type 0} {s : Shape T} {m : Machine M T A} {e : EditMeaning
   pub tries_stop : {C : Type 0} {new : Seat ℕ SeatView} {now : UpdateRun E C} {Q : Updater (hand_calls s m hand) e → List SeatedPass → Type 0} → ((u : Updater (hand_calls s m hand) e) → UpdaterGoesOn u new.me.0.passes now f behind → Q u new.me.0.passes) → TryGoesOn s m e hand f old run next new now behind → Leads old new (left_then e run f next (shared_nodes hand.layout.now)) (λ u ps. UpdaterGoesOn u ps run f next) Q
   tries_stop stops a = record { table = a.table; to = λ u x. stops u (a.to u x); steps = (let steps = a.steps in omega (arith, steps)) }
 
+module _ {S T M A E : Type 0} {s : Shape T} {m : Machine M T A} {e : EditMeaning E} {hand : Hand S} {f : Found} {B : Type 0} {run : UpdateRun E B} {nth : Nth} {p : Piece} {old : Seat ℕ SeatView} {next behind : Option NodeWord} where
+  -- if the same word comes next, it is filled on so
+  pub fills_as : next ≡ behind → FillGoesOn s m e hand f run nth p old next old behind
+  fills_as is = record { table = (refl, refl); to = λ u x. rw is at x; later = omega arith; steps = rw is (omega arith) }
+
 module _ {S T M A E : Type 0} {s : Shape T} {m : Machine M T A} {e : EditMeaning E} {hand : Hand S} {f : Found} {B : Type 0} {run : UpdateRun E B} {nth : Nth} {p : Piece} {old new : Seat ℕ SeatView} {next behind : Option NodeWord} where
   -- a fresh node is filled on twice
   pub fills_further : {third : Seat ℕ SeatView} {end : Option NodeWord} → FillGoesOn s m e hand f run nth p old next new behind → FillGoesOn s m e hand f run nth p new behind third end → FillGoesOn s m e hand f run nth p old next third end

@@ -1,5 +1,5 @@
 //! What updates fill, of whatever machine updates.
-ghost use Rattle.std.specs.Prelude.{◌≡◌, ◌<◌, true, Ok, Some, IfSome};
+ghost use Rattle.std.specs.Prelude.{◌≡◌, ◌<◌, true, false, Ok, None, Some, IfSome};
 ghost use Rattle.arena.specs.declared.word.NodeWord.{NodeWord};
 ghost use Rattle.arena.specs.declared.word.SettledPart.{SettledPart};
 ghost use Rattle.forest.specs.Hands.{IsAt};
@@ -12,7 +12,7 @@ use crate::call_machine::CallMachine;
 use crate::straight::hand::Hand;
 use crate::straight::step::step_from;
 use crate::view::SeatView;
-use arena::{Access, Kind, NodeNo, NodeWord, SettledPart, Shape, Slot, Step, Word};
+use arena::{Access, Kind, NodeNo, NodeWord, SettledPart, Shape, Side, Slot, Step, Word};
 use atomic_table::Seat;
 use edits::{Edit, Next, Nth, Piece, Stop, UpdateRun};
 use template::Found;
@@ -64,6 +64,29 @@ fn put<S: Shape, M: CallMachine<S>, E: Edit + Copy>(
     step_from::<S, M>(hand, seat, Step { kind, word, access }, node.start);
 }
 
+/// Fills a word of the fresh node of this place.
+#[inline(always)]
+fn fill_word<S: Shape, M: CallMachine<S>, E: Edit + Copy>(
+    hand: Hand<S>,
+    seat: &mut Seat<u8, SeatView>,
+    run: &UpdateRun<E, ()>,
+    node: FreshNode<'_>,
+    part: NodeWord,
+)
+    requires table { IsAt hand seat.old }
+    requires fresh { IsFreshPiece hand.layout.now E.means run.now node.found.now
+        node.nth node.start node.piece.now }
+    requires fills { StandsToFill S.Shape M.Machine E.means hand node.found.now
+        seat.old run.now node.nth (Some part) }
+    ensures goes_on { FillGoesOn S.Shape M.Machine E.means hand.entry node.entry.found.now
+        run.now node.entry.nth node.entry.piece.now seat.old (Some part)
+        seat.new (part_behind node.entry.piece.now part) }
+    ensures moves { steps_made seat.old < steps_made seat.new }
+{
+    let value = node.piece.word(part);
+    put::<S, M, E>(hand, seat, run, node, part, value);
+}
+
 /// Fills a word of the fresh node of this place, and returns the word that is filled next, if one
 /// is.
 #[inline(always)]
@@ -84,9 +107,37 @@ fn fill<S: Shape, M: CallMachine<S>, E: Edit + Copy>(
     ensures moves { steps_made seat.old < steps_made seat.new }
     ensures filled { IfSome result (λ part. is_filled node.entry.piece.now part ≡ true) }
 {
-    let value = node.piece.word(part);
-    put::<S, M, E>(hand, seat, run, node, part, value);
+    fill_word::<S, M, E>(hand, seat, run, node, part);
     node.piece.behind(part)
+}
+
+/// Fills the high half of the value in this slot, if that is not 0. With it and without it the same
+/// comes next: so it has a function of its own, behind which that is asked once.
+#[inline(always)]
+fn fill_high<S: Shape, M: CallMachine<S>, E: Edit + Copy>(
+    hand: Hand<S>,
+    seat: &mut Seat<u8, SeatView>,
+    run: &UpdateRun<E, ()>,
+    node: FreshNode<'_>,
+    slot: Slot,
+    high: u64,
+)
+    requires table { IsAt hand seat.old }
+    requires fresh { IsFreshPiece hand.layout.now E.means run.now node.found.now
+        node.nth node.start node.piece.now }
+    requires value { high ≡ word_of node.piece.now (NodeWord.Settled (SettledPart.High slot)) }
+    requires fills { StandsToFill S.Shape M.Machine E.means hand node.found.now seat.old run.now
+        node.nth (part_behind node.piece.now (NodeWord.Settled (SettledPart.Value slot))) }
+    ensures { FillGoesOn S.Shape M.Machine E.means hand.entry node.entry.found.now
+        run.now node.entry.nth node.entry.piece.now
+        seat.old (part_behind node.entry.piece.now (NodeWord.Settled (SettledPart.Value slot)))
+        seat.new (part_behind node.entry.piece.now (NodeWord.Settled (SettledPart.High slot))) }
+{
+    if high == 0 {
+        return;
+    }
+    let part = NodeWord::Settled(SettledPart::High(slot));
+    put::<S, M, E>(hand, seat, run, node, part, high);
 }
 
 /// Fills the pair in this slot of a leaf: its key, and what of its value is to be filled. Where its
@@ -116,11 +167,7 @@ fn fill_pair<S: Shape, M: CallMachine<S>, E: Edit + Copy>(
     put::<S, M, E>(hand, seat, run, node, part, key);
     let part = NodeWord::Settled(SettledPart::Value(slot));
     put::<S, M, E>(hand, seat, run, node, part, low);
-    if high == 0 {
-        return node.piece.key_behind(slot);
-    }
-    let part = NodeWord::Settled(SettledPart::High(slot));
-    put::<S, M, E>(hand, seat, run, node, part, high);
+    fill_high::<S, M, E>(hand, seat, run, node, slot, high);
     node.piece.key_behind(slot)
 }
 
@@ -152,15 +199,27 @@ fn fill_more<S: Shape, M: CallMachine<S>, E: Edit + Copy>(
     }
 }
 
-/// Fills the pair in this slot, where its key is the word that is filled next.
+/// Whether the key in this slot of a leaf is the word that is filled next.
 #[inline(always)]
-fn fill_next_pair<S: Shape, M: CallMachine<S>, E: Edit + Copy>(
+fn is_pair_next(piece: &Piece, next: Option<NodeWord>, slot: Slot) -> bool
+    ensures { result ≡ true → (next ≡ Some (NodeWord.Settled (SettledPart.Key slot)))
+        × (is_leaf_piece piece.now ≡ true) }
+{
+    match next {
+        Some(NodeWord::Settled(SettledPart::Key(at))) => at == slot && is_leaf_piece(piece),
+        _ => false,
+    }
+}
+
+/// Fills the last two pairs of a leaf, as many as there are, where the key of the third is the word
+/// that is filled next.
+#[inline(always)]
+fn fill_last_pairs<S: Shape, M: CallMachine<S>, E: Edit + Copy>(
     hand: Hand<S>,
     seat: &mut Seat<u8, SeatView>,
     run: &UpdateRun<E, ()>,
     node: FreshNode<'_>,
     next: Option<NodeWord>,
-    slot: Slot,
 ) -> Option<NodeWord>
     requires table { IsAt hand seat.old }
     requires fresh { IsFreshPiece hand.layout.now E.means run.now node.found.now
@@ -168,18 +227,21 @@ fn fill_next_pair<S: Shape, M: CallMachine<S>, E: Edit + Copy>(
     requires fills { StandsToFill S.Shape M.Machine E.means hand node.found.now
         seat.old run.now node.nth next }
     requires there { IfSome next (λ part. is_filled node.piece.now part ≡ true) }
-    ensures goes_on { FillGoesOn S.Shape M.Machine E.means hand.entry node.entry.found.now
+    ensures { FillGoesOn S.Shape M.Machine E.means hand.entry node.entry.found.now
         run.now node.entry.nth node.entry.piece.now seat.old next seat.new result }
-    ensures filled { IfSome result (λ part. is_filled node.entry.piece.now part ≡ true) }
 {
-    match next {
-        Some(NodeWord::Settled(SettledPart::Key(at))) if at == slot && is_leaf_piece(node.piece) =>
-            { fill_pair::<S, M, E>(hand, seat, run, node, at) }
-        _ => next,
+    if !is_pair_next(node.piece, next, Slot::Third) {
+        return next;
     }
+    let fourth = fill_pair::<S, M, E>(hand, seat, run, node, Slot::Third);
+    if !is_pair_next(node.piece, fourth, Slot::Fourth) {
+        return fourth;
+    }
+    fill_pair::<S, M, E>(hand, seat, run, node, Slot::Fourth)
 }
 
-/// Fills the pairs of a leaf, where the key of the first is the word that is filled next.
+/// Fills the pairs of a leaf, where the key of the first is the word that is filled next. It ends
+/// at the first slot that does not come next, so that the compiler asks once behind each pair.
 #[inline(always)]
 fn fill_pairs<S: Shape, M: CallMachine<S>, E: Edit + Copy>(
     hand: Hand<S>,
@@ -197,10 +259,93 @@ fn fill_pairs<S: Shape, M: CallMachine<S>, E: Edit + Copy>(
     ensures { FillGoesOn S.Shape M.Machine E.means hand.entry node.entry.found.now
         run.now node.entry.nth node.entry.piece.now seat.old next seat.new result }
 {
-    let next = fill_next_pair::<S, M, E>(hand, seat, run, node, next, Slot::First);
-    let next = fill_next_pair::<S, M, E>(hand, seat, run, node, next, Slot::Second);
-    let next = fill_next_pair::<S, M, E>(hand, seat, run, node, next, Slot::Third);
-    fill_next_pair::<S, M, E>(hand, seat, run, node, next, Slot::Fourth)
+    if !is_pair_next(node.piece, next, Slot::First) {
+        return next;
+    }
+    let second = fill_pair::<S, M, E>(hand, seat, run, node, Slot::First);
+    if !is_pair_next(node.piece, second, Slot::Second) {
+        return second;
+    }
+    let third = fill_pair::<S, M, E>(hand, seat, run, node, Slot::Second);
+    fill_last_pairs::<S, M, E>(hand, seat, run, node, third)
+}
+
+/// Fills a fresh leaf.
+#[inline(always)]
+fn fill_leaf<S: Shape, M: CallMachine<S>, E: Edit + Copy>(
+    hand: Hand<S>,
+    seat: &mut Seat<u8, SeatView>,
+    run: &UpdateRun<E, ()>,
+    node: FreshNode<'_>,
+)
+    requires table { IsAt hand seat.old }
+    requires fresh { IsFreshPiece hand.layout.now E.means run.now node.found.now
+        node.nth node.start node.piece.now }
+    requires fills { StandsToFill S.Shape M.Machine E.means hand node.found.now
+        seat.old run.now node.nth (Some (NodeWord.Settled SettledPart.Head)) }
+    ensures goes_on { FillGoesOn S.Shape M.Machine E.means hand.entry node.entry.found.now
+        run.now node.entry.nth node.entry.piece.now
+        seat.old (Some (NodeWord.Settled SettledPart.Head)) seat.new None }
+    ensures moves { steps_made seat.old < steps_made seat.new }
+{
+    let head = NodeWord::Settled(SettledPart::Head);
+    let next = fill::<S, M, E>(hand, seat, run, node, head);
+    let next = fill_more::<S, M, E>(hand, seat, run, node, next);
+    let mut next = fill_pairs::<S, M, E>(hand, seat, run, node, next);
+    while let Some(part) = next {
+        next = fill::<S, M, E>(hand, seat, run, node, part);
+    }
+}
+
+/// Fills a fresh fork: its head, its key and its children.
+#[inline(always)]
+fn fill_fork<S: Shape, M: CallMachine<S>, E: Edit + Copy>(
+    hand: Hand<S>,
+    seat: &mut Seat<u8, SeatView>,
+    run: &UpdateRun<E, ()>,
+    node: FreshNode<'_>,
+)
+    requires table { IsAt hand seat.old }
+    requires fresh { IsFreshPiece hand.layout.now E.means run.now node.found.now
+        node.nth node.start node.piece.now }
+    requires fills { StandsToFill S.Shape M.Machine E.means hand node.found.now
+        seat.old run.now node.nth (Some (NodeWord.Settled SettledPart.Head)) }
+    requires fork { is_leaf_piece node.piece.now ≡ false }
+    ensures goes_on { FillGoesOn S.Shape M.Machine E.means hand.entry node.entry.found.now
+        run.now node.entry.nth node.entry.piece.now
+        seat.old (Some (NodeWord.Settled SettledPart.Head)) seat.new None }
+    ensures moves { steps_made seat.old < steps_made seat.new }
+{
+    fill_word::<S, M, E>(hand, seat, run, node, NodeWord::Settled(SettledPart::Head));
+    let key = NodeWord::Settled(SettledPart::Key(Slot::First));
+    fill_word::<S, M, E>(hand, seat, run, node, key);
+    fill_word::<S, M, E>(hand, seat, run, node, NodeWord::Child(Side::Left));
+    fill_word::<S, M, E>(hand, seat, run, node, NodeWord::Child(Side::Right));
+}
+
+/// Fills all words of a fresh node, by what it is: so the compiler asks that once.
+#[inline(always)]
+fn fill_words<S: Shape, M: CallMachine<S>, E: Edit + Copy>(
+    hand: Hand<S>,
+    seat: &mut Seat<u8, SeatView>,
+    run: &UpdateRun<E, ()>,
+    node: FreshNode<'_>,
+)
+    requires table { IsAt hand seat.old }
+    requires fresh { IsFreshPiece hand.layout.now E.means run.now node.found.now
+        node.nth node.start node.piece.now }
+    requires fills { StandsToFill S.Shape M.Machine E.means hand node.found.now
+        seat.old run.now node.nth (Some (NodeWord.Settled SettledPart.Head)) }
+    ensures goes_on { FillGoesOn S.Shape M.Machine E.means hand.entry node.entry.found.now
+        run.now node.entry.nth node.entry.piece.now
+        seat.old (Some (NodeWord.Settled SettledPart.Head)) seat.new None }
+    ensures moves { steps_made seat.old < steps_made seat.new }
+{
+    if is_leaf_piece(node.piece) {
+        fill_leaf::<S, M, E>(hand, seat, run, node)
+    } else {
+        fill_fork::<S, M, E>(hand, seat, run, node)
+    }
 }
 
 /// Fills the fresh node of this place.
@@ -227,12 +372,6 @@ pub(crate) fn fill_node<S: Shape, M: CallMachine<S>, E: Edit + Copy>(
         start,
         piece: &piece,
     };
-    let head = NodeWord::Settled(SettledPart::Head);
-    let next = fill::<S, M, E>(hand, seat, run, node, head);
-    let next = fill_more::<S, M, E>(hand, seat, run, node, next);
-    let mut next = fill_pairs::<S, M, E>(hand, seat, run, node, next);
-    while let Some(part) = next {
-        next = fill::<S, M, E>(hand, seat, run, node, part);
-    }
+    fill_words::<S, M, E>(hand, seat, run, node);
     run.filled(found, nth)
 }
