@@ -87,7 +87,7 @@ fn range_run(alloc: Global, low: u64, high: u64, most: usize, tries: u32, trie: 
 
 /// Looks with so many tries for the pair beside a key on this side, and takes nothing of a share. What
 /// it keeps grows with this allocator.
-#[inline(always)]
+#[inline(never)]
 fn neighbour<K: WordKey, V: WordValue, B: FixedBalance>(
     hand: Hand<Dict<K, V, B>>,
     seat: &mut Seat<u8, SeatView>,
@@ -114,10 +114,36 @@ fn neighbour<K: WordKey, V: WordValue, B: FixedBalance>(
 {
     key.valid();
     let mut run = Neighbour::run(alloc, key.word(), side, tries, in_trie::<B>());
+    let _ = run.snaps.reserve(16);
     let told = ordered_read::call::<Dict<K, V, B>, DictRun<K, V>, Neighbour, B>(
         hand, seat, &mut run,
     );
     of_neighbour(told)
+}
+
+/// A range
+#[inline(never)]
+fn range<K: WordKey, V: WordValue, B: FixedBalance>(
+    hand: Hand<Dict<K, V, B>>,
+    seat: &mut Seat<u8, SeatView>,
+    alloc: Global,
+    tries: u32,
+    low: K,
+    high: K,
+    most: u32,
+) -> Reply<K, V>
+{
+    high.valid();
+    let mut run = range_run(
+        alloc,
+        low.word(),
+        high.word(),
+        most as usize,
+        tries,
+        in_trie::<B>(),
+    );
+    let told = ordered_read::call::<Dict<K, V, B>, DictRun<K, V>, Range, B>(hand, seat, &mut run);
+    of_range(alloc, told)
 }
 
 /// Makes an ordered read with `tries` tries, which takes nothing of a share. What it keeps grows
@@ -152,19 +178,7 @@ pub(crate) fn read<K: WordKey, V: WordValue, B: FixedBalance>(
         Request::Successor { key } => neighbour(hand, seat, alloc, tries, key, Side::Right),
         Request::Predecessor { key } => neighbour(hand, seat, alloc, tries, key, Side::Left),
         Request::Range { low, high, most } => {
-            high.valid();
-            let mut run = range_run(
-                alloc,
-                low.word(),
-                high.word(),
-                most as usize,
-                tries,
-                in_trie::<B>(),
-            );
-            let told = ordered_read::call::<Dict<K, V, B>, DictRun<K, V>, Range, B>(
-                hand, seat, &mut run,
-            );
-            of_range(alloc, told)
+            range(hand, seat, alloc, tries, low, high, most)
         }
         // Never: its callers make ordered reads alone, by the clause `ordered`.
         _ => unreachable!(),

@@ -88,6 +88,12 @@ pub(crate) enum ReadStop {
         marked: bool,
         scx: ScxNo,
     },
+    /// Its list of snapshots has no room for this one of that fork.
+    Full {
+        children: Children,
+        level: u64,
+        snap: Snap,
+    },
     /// It ends so.
     Refused(Refused),
 }
@@ -109,10 +115,15 @@ fn look_on<S: Shape, M: CallMachine<S>, R: Read + Drop>(
         seat.old run.old (Ok (ReadNext.Look children level node)) seat.new run.new result }
 {
     match look::<S, M, Tree>(hand, seat, node) {
-        Ok(snap) => match run.looked(children, level, snap) {
-            Ok(next) => Ok(next),
-            Err(refused) => Err(ReadStop::Refused(refused)),
-        },
+        Ok(snap) => {
+            if run.snaps.len() == run.snaps.capacity() {
+                return Err(ReadStop::Full { children, level, snap });
+            }
+            match run.looked(children, level, snap) {
+                Ok(next) => Ok(next),
+                Err(refused) => Err(ReadStop::Refused(refused)),
+            }
+        }
         Err((marked, scx)) => Err(ReadStop::Again {
             children,
             level,
@@ -178,6 +189,10 @@ fn leave<S: Shape, M: CallMachine<S>, R: Read + Drop>(
             marked,
             scx,
         } => look_again::<S, M, R>(hand, seat, run, children, level, node, marked, scx),
+        ReadStop::Full { children, level, snap } => match run.looked(children, level, snap) {
+            Ok(next) => rest_by_turns::<S, M, R>(hand, seat, run, next),
+            Err(refused) => Err(refused),
+        },
         ReadStop::Refused(refused) => Err(refused),
     }
 }
@@ -503,7 +518,7 @@ fn from_root<S: Shape, M: CallMachine<S>, R: Read + Drop>(
 }
 
 /// Makes an ordered read: its first try inline. A function of its own, as that of an update.
-#[inline(never)]
+#[inline(always)]
 pub(crate) fn call<S: Shape, M: CallMachine<S>, R: Read + Drop, B: FixedBalance>(
     hand: Hand<S>,
     seat: &mut Seat<u8, SeatView>,
