@@ -18,6 +18,7 @@ pub mod Copies
 pub mod AllBack
 pub mod Crowds
 mod Places
+mod Slotted
 mod Inside
 mod Hosts
 mod StraightLlx

@@ -16,7 +16,7 @@ use Rattle.forest.specs.declared.view.SeatView.{SeatView}
 use Rattle.forest.specs.declared.view.SeatedPass.{SeatedPass}
 use Rattle.forest.specs.StraightUpdate.{FillGoesOn, TryGoesOn, Updater, UpdaterGoesOn, fills_then}
 use Rattle.forest.specs.Leads.{Leads, steps_made}
-use Rattle.forest.specs.Hands.{hand_calls}
+use Rattle.forest.specs.Hands.{hand_calls, names}
 use Rattle.forest.specs.Traces.{shared_nodes}
 use Rattle.forest.proofs.StraightUpdate.{goes_as, through}
 
@@ -35,11 +35,11 @@ module _ {S T M A E : Type 0} {s : Shape T} {m : Machine M T A} {e : EditMeaning
   tries_on a b = record { table = (b.table.0 ∙ a.table.0, b.table.1 ∙ a.table.1); to = λ u x. b.to u (a.to u x); later = through _ _ _ a.later b.later; steps = through _ _ _ b.steps a.steps }
 
   -- with a step it has fewer left
-  pub tries_nearer : {C : Type 0} {new : Seat ℕ SeatView} {now : UpdateRun E C} → TryGoesOn s m e hand f old run next new now behind → steps_made old < steps_made new → left_then e now f behind (shared_nodes hand.layout.now) < left_then e run f next (shared_nodes hand.layout.now)
+  pub tries_nearer : {C : Type 0} {new : Seat ℕ SeatView} {now : UpdateRun E C} → TryGoesOn s m e hand f old run next new now behind → steps_made old < steps_made new → left_then e now f behind (shared_nodes (names hand)) < left_then e run f next (shared_nodes (names hand))
   tries_nearer a moves = let steps = a.steps in omega (arith, steps, moves)
 
   -- it continues, and then leads to Q
-  pub tries_end : {C : Type 0} {new third : Seat ℕ SeatView} {now : UpdateRun E C} {Q : Updater (hand_calls s m hand) e → List SeatedPass → Type 0} → TryGoesOn s m e hand f old run next new now behind → Leads new third (left_then e now f behind (shared_nodes hand.layout.now)) (λ u ps. UpdaterGoesOn u ps now f behind) Q → Leads old third (left_then e run f next (shared_nodes hand.layout.now)) (λ u ps. UpdaterGoesOn u ps run f next) Q
+  pub tries_end : {C : Type 0} {new third : Seat ℕ SeatView} {now : UpdateRun E C} {Q : Updater (hand_calls s m hand) e → List SeatedPass → Type 0} → TryGoesOn s m e hand f old run next new now behind → Leads new third (left_then e now f behind (shared_nodes (names hand))) (λ u ps. UpdaterGoesOn u ps now f behind) Q → Leads old third (left_then e run f next (shared_nodes (names hand))) (λ u ps. UpdaterGoesOn u ps run f next) Q
   tries_end a b = record {
     table = (b.table.0 ∙ a.table.0, b.table.1 ∙ a.table.1);
     to = λ u x. b.to u (a.to u x);
@@ -47,7 +47,7 @@ module _ {S T M A E : Type 0} {s : Shape T} {m : Machine M T A} {e : EditMeaning
   }
 
   -- if it continues, Q holds
-  pub tries_stop : {C : Type 0} {new : Seat ℕ SeatView} {now : UpdateRun E C} {Q : Updater (hand_calls s m hand) e → List SeatedPass → Type 0} → ((u : Updater (hand_calls s m hand) e) → UpdaterGoesOn u new.me.0.passes now f behind → Q u new.me.0.passes) → TryGoesOn s m e hand f old run next new now behind → Leads old new (left_then e run f next (shared_nodes hand.layout.now)) (λ u ps. UpdaterGoesOn u ps run f next) Q
+  pub tries_stop : {C : Type 0} {new : Seat ℕ SeatView} {now : UpdateRun E C} {Q : Updater (hand_calls s m hand) e → List SeatedPass → Type 0} → ((u : Updater (hand_calls s m hand) e) → UpdaterGoesOn u new.me.0.passes now f behind → Q u new.me.0.passes) → TryGoesOn s m e hand f old run next new now behind → Leads old new (left_then e run f next (shared_nodes (names hand))) (λ u ps. UpdaterGoesOn u ps run f next) Q
   tries_stop stops a = record { table = a.table; to = λ u x. stops u (a.to u x); steps = (let steps = a.steps in omega (arith, steps)) }
 
 module _ {S T M A E : Type 0} {s : Shape T} {m : Machine M T A} {e : EditMeaning E} {hand : Hand S} {f : Found} {B : Type 0} {run : UpdateRun E B} {nth : Nth} {p : Piece} {old : Seat ℕ SeatView} {next behind : Option NodeWord} where

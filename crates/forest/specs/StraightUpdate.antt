@@ -1,6 +1,5 @@
 -- Calls of updates, of whatever machine updates: at a place of it, or before it has begun.
 use Rattle.std.specs.Prelude.{◌≡◌, ℕ, suc, ◌+◌, ◌-◌, ◌*◌, ◌≤◌, List, [], Option, Some, None, Result, Ok, Err}
-use Rattle.arena.specs.Layout.{node_start}
 use Rattle.histories.specs.Common.{Layout, NodeWord, Ghosts as Machine, History, Remaining, ScxNo}
 use Rattle.arena.specs.declared.machine.Shape.{Ghosts as Shape}
 use Rattle.atomic_table.specs.declared.shared.Seat.{Seat}
@@ -28,11 +27,13 @@ use Rattle.forest.specs.declared.straight.hand.Hand.{Hand}
 use Rattle.forest.specs.declared.view.SeatView.{SeatView}
 use Rattle.forest.specs.declared.view.SeatedPass.{SeatedPass}
 use Rattle.forest.specs.CallKinds.{Calls}
-use Rattle.forest.specs.Hands.{hand_calls}
+use Rattle.forest.specs.Hands.{hand_calls, names}
 use Rattle.forest.specs.Hosts.{Host, HostedBegins, HostedEnds, HostedIsTold, HostedWaits, InnerCall}
 use Rattle.forest.specs.Leads.{Leads, steps_made}
 use Rattle.forest.specs.Seats.{StaysAtTable}
 use Rattle.forest.specs.Traces.{Trace, HoldsForCall, shared_nodes}
+use Rattle.forest.specs.Slotted.{node_begins}
+use Rattle.slots.specs.Lasting.{Lasting}
 
 -- The second run is the same update further on, which has given up one try at most. Of the share
 -- no more is taken than may be, if this many tries may still take nodes, and this many an
@@ -130,8 +131,8 @@ module _ {M E : Type 0} {o : Calls M} {e : EditMeaning E} (u : Updater o e) (ps 
   UpdaterLeaves a share = (m : UpdateRun E (Unit {0})) × (m.share ≡ share) × UpdaterEnds m a
 
 -- the words of the fresh node of this place begin there, and the piece is what the edit says of it
-abbrev pub IsFreshPiece : {E A : Type 0} → Layout → EditMeaning E → UpdateRun E A → Found → Nth → ℕ → Piece → Type 0
-IsFreshPiece lay e m f nth start p = (start ≡ node_start lay (nth_node m.nodes nth)) × (p ≡ pieces_now e m f nth)
+abbrev pub IsFreshPiece : {E A : Type 0} → Lasting → EditMeaning E → UpdateRun E A → Found → Nth → ℕ → Piece → Type 0
+IsFreshPiece t e m f nth start p = (start ≡ node_begins t (nth_node m.nodes nth)) × (p ≡ pieces_now e m f nth)
 
 -- how many steps are left to an update whose SCX could not freeze a node, if its HELP is there
 abbrev pub left_at_block : {E A : Type 0} → EditMeaning E → UpdateRun E A → HelpRun → ℕ → ℕ
@@ -148,11 +149,11 @@ module _ {S T M A E : Type 0} (s : Shape T) (m : Machine M T A) (e : EditMeaning
     pub table : StaysAtTable old new
     pub to : (u : Updater (hand_calls s m hand) e) → UpdaterGoesOn u old.me.0.passes run f next → UpdaterGoesOn u new.me.0.passes now f behind
     pub later : steps_made old ≤ steps_made new
-    pub steps : steps_made new + left_then e now f behind (shared_nodes hand.layout.now) ≤ steps_made old + left_then e run f next (shared_nodes hand.layout.now)
+    pub steps : steps_made new + left_then e now f behind (shared_nodes (names hand)) ≤ steps_made old + left_then e run f next (shared_nodes (names hand))
 
   -- from this seat, with a try about to do `next`, the update ends at that one, with this answer
   abbrev pub TryEnds : {B C : Type 0} → Seat ℕ SeatView → UpdateRun E B → Result Next Stop → Seat ℕ SeatView → UpdateRun E C → Updated → Type 0
-  TryEnds old run next new now answer = Leads {K = Updater (hand_calls s m hand) e} old new (left_then e run f next (shared_nodes hand.layout.now)) (λ u ps. UpdaterGoesOn u ps run f next) (λ u ps. UpdaterEnds u ps now answer)
+  TryEnds old run next new now answer = Leads {K = Updater (hand_calls s m hand) e} old new (left_then e run f next (shared_nodes (names hand))) (λ u ps. UpdaterGoesOn u ps run f next) (λ u ps. UpdaterEnds u ps now answer)
 
   -- in a call of the hand, this word of the fresh node of this place is filled next, if one is
   abbrev pub StandsToFill : {B : Type 0} → Seat ℕ SeatView → UpdateRun E B → Nth → Option NodeWord → Type 0

@@ -2,7 +2,6 @@
 use Rattle.std.specs.Prelude.{◌≡◌, ◌⊎◌, ℕ, ◌+◌, ◌<◌, ◌≤◌, Bool, true, false, List}
 use Rattle.atomic_table.specs.declared.shared.Seat.{Seat}
 use Rattle.histories.specs.Common.{Layout, NodeNo, Step, History, value, Call, LoadChild, LoadSettled, Settled, Head as HeadWord, Side, child, node, head_of, Ghosts as Machine}
-use Rattle.arena.specs.Layout.{node_start}
 use Rattle.arena.specs.declared.head.Head.{Head}
 use Rattle.arena.specs.declared.machine.Shape.{Ghosts as Shape}
 use Rattle.template.specs.Common.{load, path_key, FoundBy, WalkIsTold, WalkWaits, IsPastRoot, Goal}
@@ -27,6 +26,8 @@ use Rattle.forest.specs.Hands.{hand_calls}
 use Rattle.forest.specs.Leads.{steps_made}
 use Rattle.forest.specs.Traces.{shared_nodes}
 use Rattle.forest.specs.Inside.{Inner, Inside, InnerIsTold, InnerWaits}
+use Rattle.forest.specs.Slotted.{node_begins}
+use Rattle.slots.specs.Lasting.{Lasting}
 
 -- the second walk goes to the same goal, by the same way
 abbrev pub GoesAs : WalkRun → WalkRun → Type 0
@@ -59,16 +60,16 @@ with_turn_if false side n turns = turns
 
 -- at this place a walk asks for the head of the node that its trail has reached, whose words begin
 -- there
-pub record AsksHead (lay : Layout) (trail : Trail) (at : WalkAt) (start : ℕ) : Type 0 where
+pub record AsksHead (t : Lasting) (trail : Trail) (at : WalkAt) (start : ℕ) : Type 0 where
   pub place : LoadsHead at
-  pub begins : start ≡ node_start lay trail.node
+  pub begins : start ≡ node_begins t trail.node
 
 -- a walk by this way has gone down from a fork of this level to a node, whose head it asks for: it
 -- is no deeper than there is room for in a table of this layout
-pub record AsksBelow (lay : Layout) (way : Way) (level : ℕ) (place : Reached) : Type 0 where
+pub record AsksBelow (t : Lasting) (way : Way) (level : ℕ) (place : Reached) : Type 0 where
   pub at : place.at ≡ AtHead level
-  pub deep : level + 1 < 2 + room way (shared_nodes lay)
-  pub begins : place.start ≡ node_start lay place.trail.node
+  pub deep : level + 1 < 2 + room way (shared_nodes t.lay)
+  pub begins : place.start ≡ node_begins t place.trail.node
 
 -- the head is that of a fork whose key a walk to this goal loads
 pub record IsAskedFork (goal : Goal) (head : Head) : Type 0 where

@@ -1,7 +1,7 @@
 //! The places from which updates walk: the root; or, of an edit with a guard, the child of the root,
 //! once it has looked at that.
 ghost use Rattle.std.specs.Prelude.{◌≡◌, true, IfErr, IfOk};
-ghost use Rattle.forest.specs.Hands.{IsAt, hand_calls};
+ghost use Rattle.forest.specs.Hands.{IsAt, hand_calls, names};
 ghost use Rattle.forest.specs.Leads.{Leads};
 ghost use Rattle.forest.specs.Traces.{shared_nodes};
 ghost use Rattle.forest.specs.StraightGuard.{BeginsToWalk, at_guard_again};
@@ -63,7 +63,7 @@ fn pass<S: Shape, M: CallMachine<S>, E: Edit + Copy>(
     ensures walks { IfOk result (λ place.
         BeginsToWalk S.Shape M.Machine E.means hand.entry way goal seat.old run.old seat.new run.new place) }
     ensures ends { IfErr result (λ updated. Leads seat.old seat.new
-        (update_left E.means (standing run.old Places.Start) (shared_nodes hand.entry.layout.now))
+        (update_left E.means (standing run.old Places.Start) (shared_nodes (names hand.entry)))
         (λ (u : Updater (hand_calls S.Shape M.Machine hand.entry) E.means) ps. UpdaterBegins u ps run.old)
         (λ u ps. UpdaterEnds u ps run.new updated)) }
 {
@@ -100,7 +100,7 @@ pub(crate) fn begin<S: Shape, M: CallMachine<S>, E: Edit + Copy>(
     ensures walks { IfOk result (λ place.
         BeginsToWalk S.Shape M.Machine E.means hand.entry way goal seat.old run.old seat.new run.new place) }
     ensures ends { IfErr result (λ updated. Leads seat.old seat.new
-        (update_left E.means (standing run.old Places.Start) (shared_nodes hand.entry.layout.now))
+        (update_left E.means (standing run.old Places.Start) (shared_nodes (names hand.entry)))
         (λ (u : Updater (hand_calls S.Shape M.Machine hand.entry) E.means) ps. UpdaterBegins u ps run.old)
         (λ u ps. UpdaterEnds u ps run.new updated)) }
 {

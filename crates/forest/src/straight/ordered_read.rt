@@ -3,7 +3,7 @@
 //! until then its place is left as it was.
 ghost use Rattle.std.specs.Prelude.{◌≡◌, suc, Ok, Err};
 ghost use Rattle.forest.specs.StraightReads.{ReadEnds, ReadEndsFrom, ReadGoesOn, Reader, ReaderBegins, ReaderEnds, ReaderGoesOn, ReaderLooksAgain, ReaderRoots, StandsToRead, again_left, root_left};
-ghost use Rattle.forest.specs.Hands.{IsAt, hand_calls};
+ghost use Rattle.forest.specs.Hands.{IsAt, hand_calls, names};
 ghost use Rattle.forest.specs.Hosts.{Host, HostedEnds, HostedIsTold, HostedWaits, inner_machine};
 ghost use Rattle.forest.specs.Leads.{Leads, steps_made};
 ghost use Rattle.forest.specs.Seats.{StaysAtTable};
@@ -68,7 +68,7 @@ pub(crate) fn tell<S: Shape, M: CallMachine<S>, T: Shape, N: Machine<T>>(
     requires table { IsAt hand seat.old }
     requires told { (r : Host (hand_calls S.Shape M.Machine hand) (inner_machine T.Shape N.Machine))
         × HostedIsTold r seat.old.me.0.passes run.old told }
-    ensures { Leads seat.old seat.new (N.left run.old (shared_nodes hand.entry.layout.now))
+    ensures { Leads seat.old seat.new (N.left run.old (shared_nodes (names hand.entry)))
         (λ (r : Host (hand_calls S.Shape M.Machine hand.entry) (inner_machine T.Shape N.Machine))
         ps. HostedIsTold r ps run.old told)
         (λ r ps. HostedEnds r ps run.new result) }
@@ -138,7 +138,7 @@ fn look_again<S: Shape, M: CallMachine<S>, R: Read + Drop>(
     requires waits { (r : Reader (hand_calls S.Shape M.Machine hand) R.means)
         × ReaderLooksAgain r seat.old.me.0.passes run.old children level node marked scx }
     ensures { Leads seat.old seat.new (suc (again_left R.means run.old children level node marked
-        scx (shared_nodes hand.entry.layout.now)))
+        scx (shared_nodes (names hand.entry))))
         (λ (r : Reader (hand_calls S.Shape M.Machine hand.entry) R.means) ps.
         ReaderLooksAgain r ps run.old children level node marked scx)
         (λ r ps. ReaderEnds r ps run.new result) }
@@ -490,7 +490,7 @@ fn from_root<S: Shape, M: CallMachine<S>, R: Read + Drop>(
     requires waits { (r : Reader (hand_calls S.Shape M.Machine hand) R.means)
         × ReaderRoots r seat.old.me.0.passes run.old }
     ensures { Leads seat.old seat.new (suc (root_left R.means run.old
-        (shared_nodes hand.entry.layout.now)))
+        (shared_nodes (names hand.entry))))
         (λ (r : Reader (hand_calls S.Shape M.Machine hand.entry) R.means) ps.
         ReaderRoots r ps run.old)
         (λ r ps. ReaderEnds r ps run.new result) }
@@ -515,7 +515,7 @@ pub(crate) fn call<S: Shape, M: CallMachine<S>, R: Read + Drop, B: FixedBalance>
     requires mode { hand.layout.now.mode ≡ S.mode }
     requires trie { run.old.trie ≡ B.trie B.the }
     ensures leads { Leads seat.old seat.new (read_left R.means run.old
-        (nodes_by run.old.trie (shared_nodes hand.entry.layout.now)))
+        (nodes_by run.old.trie (shared_nodes (names hand.entry))))
         (λ (r : Reader (hand_calls S.Shape M.Machine hand.entry) R.means) ps.
         ReaderBegins r ps run.old)
         (λ r ps. ReaderEnds r ps run.new result) }

@@ -1,7 +1,7 @@
 //! Updates that meet something in their way: their machine continues from there.
 ghost use Rattle.std.specs.Prelude.{◌≡◌, ◌<◌, suc};
 ghost use Rattle.forest.specs.Hosts.{HostedStands, HostedWaits};
-ghost use Rattle.forest.specs.Hands.{IsAt, hand_calls};
+ghost use Rattle.forest.specs.Hands.{IsAt, hand_calls, names};
 ghost use Rattle.forest.specs.Leads.{Leads};
 ghost use Rattle.forest.specs.Traces.{shared_nodes, weight};
 ghost use Rattle.forest.specs.StraightUpdate.{StandsToTry, TryEnds, Updater, UpdaterEnds, UpdaterIsBlocked, left_at_block};
@@ -43,7 +43,7 @@ fn finish<S: Shape, M: CallMachine<S>, E: Edit + Copy>(
     requires stands { (u : Updater (hand_calls S.Shape M.Machine hand) E.means)
         × HostedStands u seat.old.me.0.passes machine turn }
     ensures { Leads seat.old seat.new (weight turn
-        (update_left E.means machine (shared_nodes hand.entry.layout.now)))
+        (update_left E.means machine (shared_nodes (names hand.entry))))
         (λ (u : Updater (hand_calls S.Shape M.Machine hand.entry) E.means) ps.
         HostedStands u ps machine turn)
         (λ u ps. UpdaterEnds u ps result.1 result.0) }
@@ -75,7 +75,7 @@ fn rest_from<S: Shape, M: CallMachine<S>, E: Edit + Copy>(
     requires waits { (u : Updater (hand_calls S.Shape M.Machine hand) E.means)
         × HostedWaits u seat.old.me.0.passes (standing machine at) asked }
     ensures { Leads seat.old seat.new (suc (update_left E.means (standing machine at)
-        (shared_nodes hand.entry.layout.now)))
+        (shared_nodes (names hand.entry))))
         (λ (u : Updater (hand_calls S.Shape M.Machine hand.entry) E.means) ps.
         HostedWaits u ps (standing machine at) asked)
         (λ u ps. UpdaterEnds u ps result.1 result.0) }
@@ -96,7 +96,7 @@ pub(crate) fn from_place<S: Shape, M: CallMachine<S>, E: Edit + Copy>(
     requires waits { (u : Updater (hand_calls S.Shape M.Machine hand) E.means)
         × HostedWaits u seat.old.me.0.passes (standing run.old at) asked }
     ensures { Leads seat.old seat.new (suc (update_left E.means (standing run.old at)
-        (shared_nodes hand.entry.layout.now)))
+        (shared_nodes (names hand.entry))))
         (λ (u : Updater (hand_calls S.Shape M.Machine hand.entry) E.means) ps.
         HostedWaits u ps (standing run.old at) asked)
         (λ u ps. UpdaterEnds u ps run.new result) }
@@ -170,7 +170,7 @@ fn rest_from_block<S: Shape, M: CallMachine<S>, E: Edit + Copy>(
     requires blocked { (u : Updater (hand_calls S.Shape M.Machine hand) E.means)
         × UpdaterIsBlocked u seat.old.me.0.passes machine found scx help }
     ensures { Leads seat.old seat.new (left_at_block E.means machine help
-        (shared_nodes hand.entry.layout.now))
+        (shared_nodes (names hand.entry)))
         (λ (u : Updater (hand_calls S.Shape M.Machine hand.entry) E.means) ps.
         UpdaterIsBlocked u ps machine found scx help)
         (λ u ps. UpdaterEnds u ps result.1 result.0) }
@@ -193,7 +193,7 @@ pub(crate) fn from_block<S: Shape, M: CallMachine<S>, E: Edit + Copy>(
     requires blocked { (u : Updater (hand_calls S.Shape M.Machine hand) E.means)
         × UpdaterIsBlocked u seat.old.me.0.passes run.old found.now scx help.now }
     ensures { Leads seat.old seat.new (left_at_block E.means run.old help.now
-        (shared_nodes hand.entry.layout.now))
+        (shared_nodes (names hand.entry)))
         (λ (u : Updater (hand_calls S.Shape M.Machine hand.entry) E.means) ps.
         UpdaterIsBlocked u ps run.old found.now scx help.now)
         (λ u ps. UpdaterEnds u ps run.new result) }

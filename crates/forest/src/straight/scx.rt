@@ -1,13 +1,13 @@
 //! SCX with an SCX-record of the share, of whatever machine makes one: its steps inline.
 ghost use Rattle.std.specs.Prelude.{◌≡◌, ◌≤◌, ◌<◌, ◌+◌, ℕ, suc, true, false, IfSome, IfNone};
-ghost use Rattle.arena.specs.Layout.{scx_start};
 ghost use Rattle.arena.specs.MemberIndex.{member_index};
-ghost use Rattle.forest.specs.Hands.{IsAt, hand_calls};
+ghost use Rattle.forest.specs.Hands.{IsAt, hand_calls, slots};
 ghost use Rattle.forest.specs.InnerSteps.{MakesInside, WaitsInside};
 ghost use Rattle.forest.specs.Leads.{Leads, steps_made};
 ghost use Rattle.forest.specs.Seats.{StaysAtTable};
 ghost use Rattle.forest.specs.StraightScx.{Changer, changing_at, inner_scx, scx_fill, FillsPlan, FillsMember, FillsSeen, FillsCall, IsBehindChange};
 ghost use Rattle.forest.specs.Inside.{InnerIsTold, InnerWaits};
+ghost use Rattle.forest.specs.Slotted.{scx_begins};
 ghost use Rattle.help.specs.Help.Steps.{help_left};
 ghost use Rattle.help.specs.declared.state.HelpRun.{HelpRun};
 ghost use Rattle.prims.specs.declared.scx.ScxRun.{ScxRun};
@@ -45,7 +45,7 @@ fn fill<S: Shape, M: CallMachine<S>, T: Shape>(
     value: u64,
 ) -> u64
     requires table { IsAt hand seat.old }
-    requires start { start ≡ scx_start hand.layout.now scx }
+    requires start { start ≡ scx_begins (slots hand) scx }
     requires waits { WaitsInside (hand_calls S.Shape M.Machine hand) (inner_scx T.allows)
         seat.old (scx_fill scx part value) }
     ensures { MakesInside (hand_calls S.Shape M.Machine hand.entry) (inner_scx T.allows)
@@ -67,7 +67,7 @@ fn fill_member<S: Shape, M: CallMachine<S>, T: Shape, L: SnapList>(
     j: MemberIndex,
 ) -> Option<MemberIndex>
     requires table { IsAt hand seat.old }
-    requires start { start ≡ scx_start hand.layout.now change.scx }
+    requires start { start ≡ scx_begins (slots hand) change.scx }
     requires waits { (k : Changer T.allows (hand_calls S.Shape M.Machine hand))
         × FillsMember k seat.old.me.0.passes (L.list snaps.now) change j }
     ensures table { StaysAtTable seat.old seat.new }
@@ -98,7 +98,7 @@ fn fill_members<S: Shape, M: CallMachine<S>, T: Shape, L: SnapList>(
     start: usize,
 )
     requires table { IsAt hand seat.old }
-    requires start { start ≡ scx_start hand.layout.now change.scx }
+    requires start { start ≡ scx_begins (slots hand) change.scx }
     requires waits { (k : Changer T.allows (hand_calls S.Shape M.Machine hand))
         × FillsMember k seat.old.me.0.passes (L.list snaps.now) change MemberIndex.First }
     ensures { Leads seat.old seat.new 4
@@ -130,7 +130,7 @@ fn fill_seen<S: Shape, M: CallMachine<S>, T: Shape, L: SnapList>(
     j: MemberIndex,
 ) -> Option<MemberIndex>
     requires table { IsAt hand seat.old }
-    requires start { start ≡ scx_start hand.layout.now change.scx }
+    requires start { start ≡ scx_begins (slots hand) change.scx }
     requires waits { (k : Changer T.allows (hand_calls S.Shape M.Machine hand))
         × FillsSeen k seat.old.me.0.passes (L.list snaps.now) change j }
     ensures table { StaysAtTable seat.old seat.new }
@@ -161,7 +161,7 @@ fn fill_infos<S: Shape, M: CallMachine<S>, T: Shape, L: SnapList>(
     start: usize,
 )
     requires table { IsAt hand seat.old }
-    requires start { start ≡ scx_start hand.layout.now change.scx }
+    requires start { start ≡ scx_begins (slots hand) change.scx }
     requires waits { (k : Changer T.allows (hand_calls S.Shape M.Machine hand))
         × FillsSeen k seat.old.me.0.passes (L.list snaps.now) change MemberIndex.First }
     ensures { Leads seat.old seat.new 4
@@ -192,7 +192,7 @@ pub(crate) fn fill_all<S: Shape, M: CallMachine<S>, T: Shape, L: SnapList>(
     start: usize,
 ) -> u64
     requires table { IsAt hand seat.old }
-    requires start { start ≡ scx_start hand.layout.now change.scx }
+    requires start { start ≡ scx_begins (slots hand) change.scx }
     requires waits { (k : Changer T.allows (hand_calls S.Shape M.Machine hand))
         × FillsPlan k seat.old.me.0.passes (L.list snaps.now) change }
     ensures { Leads seat.old seat.new 12
@@ -231,7 +231,7 @@ pub(crate) fn call<S: Shape, M: CallMachine<S>, T: Shape, L: SnapList>(
     ensures left { result ≡ false → steps_made seat.new + suc (help_left help.new.at)
         ≤ steps_made seat.old + 34 }
 {
-    let start = hand.layout.scx_start(change.scx);
+    let start = hand.scx_start(change.scx);
     fill_all::<S, M, T, L>(hand, seat, snaps, change, start);
     helps::call::<S, M, T>(hand, seat, start, help)
 }

@@ -1,6 +1,6 @@
 //! Updates, of whatever machine updates.
 ghost use Rattle.std.specs.Prelude.{◌≡◌, ◌<◌, Ok};
-ghost use Rattle.forest.specs.Hands.{IsAt, hand_calls};
+ghost use Rattle.forest.specs.Hands.{IsAt, hand_calls, names};
 ghost use Rattle.forest.specs.Leads.{Leads, steps_made};
 ghost use Rattle.forest.specs.Traces.{shared_nodes};
 ghost use Rattle.forest.specs.StraightUpdate.{StandsToTry, TryEnds, TryGoesOn, Updater, UpdaterBegins, UpdaterEnds, UpdaterLeaves, new_update};
@@ -43,7 +43,7 @@ pub(crate) fn make<S: Shape, M: CallMachine<S>, E: Edit + Copy>(
         × UpdaterBegins u seat.old.me.0.passes (new_update edit share tries hand.number) }
     ensures { let new = new_update edit share tries hand.entry.number in
         Leads seat.old seat.new (update_left E.means (standing new UpdateAt.Start)
-        (shared_nodes hand.entry.layout.now))
+        (shared_nodes (names hand.entry)))
         (λ (u : Updater (hand_calls S.Shape M.Machine hand.entry) E.means) ps. UpdaterBegins u ps new)
         (λ u ps. UpdaterLeaves u ps result.0 result.1) }
 {
@@ -82,7 +82,7 @@ fn call<S: Shape, M: CallMachine<S>, E: Edit + Copy>(
     requires begins { (u : Updater (hand_calls S.Shape M.Machine hand) E.means)
         × UpdaterBegins u seat.old.me.0.passes run.old }
     ensures { Leads seat.old seat.new (update_left E.means (standing run.old UpdateAt.Start)
-        (shared_nodes hand.entry.layout.now))
+        (shared_nodes (names hand.entry)))
         (λ (u : Updater (hand_calls S.Shape M.Machine hand.entry) E.means) ps.
         UpdaterBegins u ps run.old)
         (λ u ps. UpdaterEnds u ps run.new result) }
@@ -245,7 +245,7 @@ fn change<S: Shape, M: CallMachine<S>, E: Edit + Copy>(
     };
     let snaps = run.snaps.as_slice();
     let mut help = HelpRun::new(scx);
-    let start = own.layout.scx_start(scx);
+    let start = own.scx_start(scx);
     scx::fill_all::<S, M, Tree, &[Snap]>(own, seat, &snaps, change, start);
     if helps::begin::<S, M, Tree, E>(own, seat, start, &mut help) {
         helps::commit::<S, M, Tree>(own, seat, start, &help);

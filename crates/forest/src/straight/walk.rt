@@ -1,12 +1,12 @@
 //! Walks to a key or to the first pair, of whatever machine walks; and that of an edit to its goal.
 ghost use Rattle.std.specs.Prelude.{◌≡◌, ◌≢◌, ◌<◌, ◌≤◌, ◌+◌, ◌*◌, ◌^◌, ℕ, suc, true, false, if◌then◌else◌, nat_lt, IfOk, IfErr, MatchResult};
 ghost use Rattle.arena.specs.Heads.{head_of};
-ghost use Rattle.arena.specs.Layout.{node_start};
 ghost use Rattle.forest.specs.Leads.{steps_made};
-ghost use Rattle.forest.specs.Hands.{IsAt, hand_calls};
+ghost use Rattle.forest.specs.Hands.{IsAt, hand_calls, names, slots};
 ghost use Rattle.forest.specs.Seats.{StaysAtTable};
 ghost use Rattle.forest.specs.Traces.{shared_nodes};
 ghost use Rattle.forest.specs.StraightWalk.{AsksHead, HasWalked, IsAskedFork, MayWalk, MayWalkFrom, WalkEnds, WalkEndsFrom, WalkFinds, WalkGoesDown, Walker, WalkerFinds, WalkerHasHead, WalksNearer, with_turn_if};
+ghost use Rattle.forest.specs.Slotted.{node_begins};
 ghost use Rattle.order.specs.LastTurns.{SharesKey, SharesNoKey};
 ghost use Rattle.order.specs.declared.last_turns.LastTurns.{LastTurns};
 ghost use Rattle.template.specs.FoundLeaf.{asked_key, path_key};
@@ -95,7 +95,7 @@ fn end_from<S: Shape, M: CallMachine<S>>(
     first: Slot,
 ) -> Found
     requires table { IsAt hand seat.old }
-    requires start { start ≡ node_start hand.layout.now trail.node }
+    requires start { start ≡ node_begins (slots hand) trail.node }
     requires first { first ≡ goal_slot goal more }
     requires told { HasWalked S.Shape M.Machine hand seat.old
         (way_at way goal trail (WalkAt.More head)) more }
@@ -141,7 +141,7 @@ fn end<S: Shape, M: CallMachine<S>>(
 ) -> Found
     requires first { (more : ℕ) → goal_slot goal more ≡ Slot.First }
     requires table { IsAt hand seat.old }
-    requires stands { AsksHead hand.layout.now trail at start }
+    requires stands { AsksHead (slots hand) trail at start }
     requires leaf { (head_of word).leaf ≡ true }
     requires told { HasWalked S.Shape M.Machine hand seat.old (way_at way goal trail at) word }
     ensures table { StaysAtTable seat.old seat.new }
@@ -258,7 +258,7 @@ fn pass_by_key<S: Shape, M: CallMachine<S>>(
     word: u64,
 ) -> Result<(Side, bool), Found>
     requires table { IsAt hand seat.old }
-    requires stands { AsksHead hand.layout.now trail at start }
+    requires stands { AsksHead (slots hand) trail at start }
     requires asks { IsAskedFork goal (head_of word) }
     requires told { HasWalked S.Shape M.Machine hand seat.old (way_at way goal trail at) word }
     ensures table { StaysAtTable seat.old seat.new }
@@ -298,16 +298,16 @@ fn step_by_key<S: Shape, M: CallMachine<S>>(
     word: u64,
 ) -> Result<(Reached, u64), Found>
     requires table { IsAt hand seat.old }
-    requires stands { AsksHead hand.layout.now place.trail place.at place.start }
+    requires stands { AsksHead (slots hand) place.trail place.at place.start }
     requires asks { IsAskedFork goal (head_of word) }
     requires told { (w : Walker (hand_calls S.Shape M.Machine hand))
         × WalkerHasHead w seat.old.me.0.passes way goal place word }
     ensures table { StaysAtTable seat.old seat.new }
     ensures stands { IfOk result (λ to.
-        AsksHead hand.entry.layout.now to.0.trail to.0.at to.0.start) }
+        AsksHead (slots hand.entry) to.0.trail to.0.at to.0.start) }
     ensures nearer { IfOk result (λ to.
-        3 + walk_left to.0.at (room way (shared_nodes hand.entry.layout.now))
-        ≤ walk_left place.at (room way (shared_nodes hand.entry.layout.now))) }
+        3 + walk_left to.0.at (room way (shared_nodes (names hand.entry)))
+        ≤ walk_left place.at (room way (shared_nodes (names hand.entry)))) }
     ensures steps { MatchResult result (λ _. steps_made seat.new ≡ steps_made seat.old + 3)
         (λ _. steps_made seat.new ≡ suc (steps_made seat.old)) }
     ensures told { IfOk result (λ to. (w : Walker (hand_calls S.Shape M.Machine hand.entry))
@@ -342,19 +342,19 @@ fn descend_by_keys<S: Shape, M: CallMachine<S>>(
     head: u64,
 ) -> Result<(Reached, u64), (Found, LastTurns)>
     requires table { IsAt hand seat.old }
-    requires stands { AsksHead hand.layout.now first.trail first.at first.start }
+    requires stands { AsksHead (slots hand) first.trail first.at first.start }
     requires told { (w : Walker (hand_calls S.Shape M.Machine hand))
         × WalkerHasHead w seat.old.me.0.passes way goal first head }
     ensures table { StaysAtTable seat.old seat.new }
     ensures stands { IfOk result (λ to.
-        AsksHead hand.entry.layout.now to.0.trail to.0.at to.0.start) }
+        AsksHead (slots hand.entry) to.0.trail to.0.at to.0.start) }
     ensures open { IfOk result (λ to.
         (head_of to.1).leaf ≡ false → asks_key goal (head_of to.1) ≡ false) }
     ensures nearer { IfOk result (λ to. WalksNearer seat.old seat.new
-        (walk_left first.at (room way (shared_nodes hand.entry.layout.now)))
-        (walk_left to.0.at (room way (shared_nodes hand.entry.layout.now)))) }
+        (walk_left first.at (room way (shared_nodes (names hand.entry))))
+        (walk_left to.0.at (room way (shared_nodes (names hand.entry))))) }
     ensures steps { IfErr result (λ _. steps_made seat.new ≤ steps_made seat.old
-        + walk_left first.at (room way (shared_nodes hand.entry.layout.now))) }
+        + walk_left first.at (room way (shared_nodes (names hand.entry)))) }
     ensures told { IfOk result (λ to. (w : Walker (hand_calls S.Shape M.Machine hand.entry))
         → WalkerHasHead w seat.old.me.0.passes way goal first head
         → WalkerHasHead w seat.new.me.0.passes way goal to.0 to.1) }
@@ -390,7 +390,7 @@ fn pass_open<S: Shape, M: CallMachine<S>>(
 ) -> Result<(Side, bool), Found>
     requires first { (more : ℕ) → goal_slot goal more ≡ Slot.First }
     requires table { IsAt hand seat.old }
-    requires stands { AsksHead hand.layout.now trail at start }
+    requires stands { AsksHead (slots hand) trail at start }
     requires open { (head_of word).leaf ≡ false → asks_key goal (head_of word) ≡ false }
     requires told { HasWalked S.Shape M.Machine hand seat.old (way_at way goal trail at) word }
     ensures table { StaysAtTable seat.old seat.new }
@@ -419,11 +419,11 @@ fn to_goal_from<S: Shape, M: CallMachine<S>>(
 ) -> (Found, LastTurns)
     requires slot { (more : ℕ) → goal_slot goal more ≡ Slot.First }
     requires table { IsAt hand seat.old }
-    requires stands { AsksHead hand.layout.now first.trail first.at first.start }
+    requires stands { AsksHead (slots hand) first.trail first.at first.start }
     requires waits { MayWalkFrom S.Shape M.Machine hand seat.old way goal first }
     ensures table { StaysAtTable seat.old seat.new }
     ensures steps { steps_made seat.new ≤ steps_made seat.old
-        + suc (walk_left first.at (room way (shared_nodes hand.entry.layout.now))) }
+        + suc (walk_left first.at (room way (shared_nodes (names hand.entry)))) }
     ensures finds { WalkEndsFrom S.Shape M.Machine hand.entry seat.old way goal first seat.new
         result.1 result.0 }
 {
@@ -469,7 +469,7 @@ pub(crate) fn to_goal<S: Shape, M: CallMachine<S>>(
     requires waits { MayWalk S.Shape M.Machine hand seat.old way goal }
     ensures table { StaysAtTable seat.old seat.new }
     ensures steps { steps_made seat.new ≤ steps_made seat.old
-        + (3 * (2 + room way (shared_nodes hand.entry.layout.now)) + 5) }
+        + (3 * (2 + room way (shared_nodes (names hand.entry))) + 5) }
     ensures finds { WalkEnds S.Shape M.Machine hand.entry seat.old way goal seat.new result.1
         result.0 }
 {
@@ -488,11 +488,11 @@ pub(crate) fn call_from<S: Shape, M: CallMachine<S>, E: Edit>(
     first: Reached,
 ) -> (Found, LastTurns)
     requires table { IsAt hand seat.old }
-    requires stands { AsksHead hand.layout.now first.trail first.at first.start }
+    requires stands { AsksHead (slots hand) first.trail first.at first.start }
     requires waits { MayWalkFrom S.Shape M.Machine hand seat.old way goal first }
     ensures table { StaysAtTable seat.old seat.new }
     ensures steps { steps_made seat.new ≤ steps_made seat.old
-        + suc (walk_left first.at (room way (shared_nodes hand.entry.layout.now))) }
+        + suc (walk_left first.at (room way (shared_nodes (names hand.entry)))) }
     ensures finds { WalkEndsFrom S.Shape M.Machine hand.entry seat.old way goal first seat.new
         result.1 result.0 }
 {

@@ -1,6 +1,7 @@
 use Rattle.std.proofs.Common.{Ok}
 use Rattle.forest.specs.StraightReads.{ReadGoesOn}
 use Rattle.forest.specs.Traces.{shared_nodes}
+use Rattle.forest.specs.Hands.{names}
 use Rattle.template.specs.Balance.{nodes_by}
 use Rattle.order.specs.Places.{placed}
 use Rattle.order.specs.Steps.{read_left}
@@ -12,4 +13,4 @@ invariant-loop-next g l = record {
 }
 
 abbrev pub decreases-loop-next : goal.decreases-loop-next
-decreases-loop-next g l = read_left g.R.Read.means (placed l.run l.next) (nodes_by l.run.trie (shared_nodes l.hand.layout.now))
+decreases-loop-next g l = read_left g.R.Read.means (placed l.run l.next) (nodes_by l.run.trie (shared_nodes (names l.hand)))

@@ -5,6 +5,7 @@ use Rattle.edits.specs.declared.update.UpdateAt.{UpdateAt}
 use Rattle.edits.specs.declared.update.UpdateRun.{UpdateRun}
 use Rattle.forest.specs.Leads.{steps_made}
 use Rattle.forest.specs.Traces.{shared_nodes}
+use Rattle.forest.specs.Hands.{names}
 use Rattle.forest.proofs.StraightUpdate.{has_passes}
 use Rattle.forest.proofs.straight.resume.from_place.Goals as goal
 
@@ -18,5 +19,5 @@ pub returns : goal.returns
 returns g c = record {
   table = c.rest_from-updated.ensures.table;
   to = λ u x. c.rest_from-updated.ensures.to u (rw c.take_run-machine.ensures x);
-  steps = subst (λ (m : UpdateRun g.row.E.Denot UpdateAt). steps_made c.rest_from-updated.new.seat ≤ steps_made c.args.seat.now + suc (update_left g.E.Edit.means (standing m c.args.at) (shared_nodes c.args.hand.layout.now))) c.take_run-machine.ensures c.rest_from-updated.ensures.steps;
+  steps = subst (λ (m : UpdateRun g.row.E.Denot UpdateAt). steps_made c.rest_from-updated.new.seat ≤ steps_made c.args.seat.now + suc (update_left g.E.Edit.means (standing m c.args.at) (shared_nodes (names c.args.hand)))) c.take_run-machine.ensures c.rest_from-updated.ensures.steps;
 }

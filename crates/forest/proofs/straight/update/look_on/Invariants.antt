@@ -1,6 +1,7 @@
 use Rattle.std.proofs.Common.{Ok}
 use Rattle.forest.specs.StraightUpdate.{TryGoesOn}
 use Rattle.forest.specs.Traces.{shared_nodes}
+use Rattle.forest.specs.Hands.{names}
 use Rattle.edits.specs.Next.{left_then}
 use Rattle.forest.proofs.straight.update.look_on.Given as goal
 
@@ -10,4 +11,4 @@ invariant-loop-now g l = record {
 }
 
 abbrev pub decreases-loop-now : goal.decreases-loop-now
-decreases-loop-now g l = left_then g.E.Edit.means l.run l.found (Ok l.now) (shared_nodes l.hand.layout.now)
+decreases-loop-now g l = left_then g.E.Edit.means l.run l.found (Ok l.now) (shared_nodes (names l.hand))
