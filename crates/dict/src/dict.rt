@@ -148,7 +148,9 @@ impl<K: WordKey, V: WordValue, B: FixedBalance> Machine<Dict<K, V, B>> for DictR
 
     ghost answers = { DictAnswers K.is_valid K.word_of V.is_valid V.word_of };
 
-    ghost same = { λ old now. (call_in now.run ≡ call_in old.run) × (now.tries ≡ old.tries) × KeepsTriesButOne old.run now.run × (trie_in now.run ≡ trie_in old.run) × KeepsEnd old.run now.run };
+    ghost same = { λ old now. (call_in now.run ≡ call_in old.run) × (now.tries ≡ old.tries)
+        × KeepsTriesButOne old.run now.run × (trie_in now.run ≡ trie_in old.run)
+        × KeepsEnd old.run now.run };
 
     ghost left = { λ m nodes. map_left m.run nodes };
 

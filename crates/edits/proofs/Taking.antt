@@ -1,5 +1,5 @@
 -- What an update takes of its share it takes from the lower end.
-use Rattle.std.proofs.Common.{◌≡◌, ◌<◌, ◌+◌, ◌-◌, ℕ, refl, arith}
+use Rattle.std.proofs.Common.{◌≡◌, ◌<◌, ◌+◌, ◌-◌, refl, arith}
 use Rattle.histories.specs.Common.{Remaining}
 use Rattle.prims.specs.Shares.{share_end}
 use Rattle.prims.proofs.Lemmas.{ends_there}

@@ -118,7 +118,8 @@ impl<E: Edit + Drop, A: Drop> UpdateRun<E, A> {
             → IsUntouched c b self.old.share → MayBeginTry E.means self.old (begun_at c b) h → IsQuietSince c.layout c.pass b h
             → HasFilledNone c.pass h b
             → FoundBy (E.means.way self.old.edit) (E.means.goal self.old.edit) (begun_at c b) h found.now
-            → Guarded E.means self.old.edit (begun_at c b) h self.old.guard (λ (k : Call). FoundBy (E.means.way self.old.edit) (E.means.goal self.old.edit) k h found.now)
+            → Guarded E.means self.old.edit (begun_at c b) h self.old.guard
+            (λ (k : Call). FoundBy (E.means.way self.old.edit) (E.means.goal self.old.edit) k h found.now)
             → UpdateGoesOn E.means c h self.new found.now result }
         ensures same { IsSameUpdate self.old self.new }
         ensures nearer { (nodes : ℕ) → ComesNearer E.means self.new found.now result nodes

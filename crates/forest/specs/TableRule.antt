@@ -111,7 +111,8 @@ pub record Looked (allows : Layout → History → ℕ → Type 0) (ps qs : List
 
 -- Dealing and joining
 
--- n passes, numbered from `from` on, that remember so much, each by its number, and know nothing yet
+-- n passes, numbered from `from` on, that remember so much, each by its number, and know nothing
+-- yet
 abbrev pub passes_with : (ℕ → PassMemory) → Plot → ℕ → ℕ → List SeatedPass
 passes_with memory plot from zero = []
 passes_with memory plot from (suc n) = seated_pass from plot.layout plot.planting (memory from) [] ∷ passes_with memory plot (suc from) n

@@ -42,13 +42,22 @@ impl<S: Shape> Model for Pass<S> {
 impl<S: Shape> Pass<S> {
     /// A pass that has made no step, at a seat of its own.
     pub(crate) fn new(layout: &Layout, number: PassNo, seat: Seat<u8, SeatView>) -> Pass<S>
-        requires seat { (seat.me.0.passes ≡ seated_pass number.0 layout.now (planting_of seat.me.0.passes) no_memory [] ∷ [])
+        requires seat { (seat.me.0.passes
+            ≡ seated_pass number.0 layout.now (planting_of seat.me.0.passes) no_memory [] ∷ [])
             × (seat.me.1 ≡ []) }
         requires run { IsRun S.allows layout.now (Opened (opening_for (planting_of seat.me.0.passes))) }
         requires pass { number.0 < layout.now.passes }
         requires mode { layout.now.mode ≡ S.mode }
         ensures { result
-            ≡ record { table = seat.table_id; layout = layout.now; planting = planting_of seat.me.0.passes; number = number.0; share = whole_share layout.now number.0; known = []; blamed = [] } }
+            ≡ record {
+              table = seat.table_id;
+              layout = layout.now;
+              planting = planting_of seat.me.0.passes;
+              number = number.0;
+              share = whole_share layout.now number.0;
+              known = [];
+              blamed = [];
+            } }
     {
         Pass {
             number,

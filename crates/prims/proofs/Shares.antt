@@ -1,7 +1,7 @@
 -- What rows leave of a pass's share, and of the SCX-record that it has in hand.
-use Rattle.std.proofs.Common.{◌≡◌, ◌≢◌, ℕ, suc, ◌+◌, ◌-◌, ◌<◌, ◌≤◌, ◌⊎◌, ⊎_elim, refl, arith, subst, ap}
+use Rattle.std.proofs.Common.{◌≡◌, ◌≢◌, ℕ, suc, ◌+◌, ◌-◌, ◌<◌, ◌≤◌, ◌⊎◌, ⊎_elim, arith, subst, ap}
 use native.Mathlib.Decide.{ℕ_discrete}
-use Rattle.histories.specs.Common.{Layout, Row, Step, Fill, opening_nodes, first_node, first_scx, Remaining, HasNode, HasScx, History, Opening, Opened, ◌⊳◌}
+use Rattle.histories.specs.Common.{Layout, Row, Step, Fill, first_node, first_scx, Remaining, HasNode, HasScx, History, Opening, Opened, ◌⊳◌}
 use Rattle.histories.specs.Common.{member, IsInProgress, IsOwnNode, IsOwnScx, IsTakenNode, IsTakenScx, Lawful, HasWon, Call, row_of, IsUnmentioned}
 use Rattle.arena.specs.Share.{whole_share, after_taking}
 use Rattle.arena.proofs.Lemmas.{taken_node_more, taken_scx_more}

@@ -2,8 +2,10 @@
 #![tactic(auto)]
 
 mod laws;
+mod untouched;
 
 pub use laws::{
-    calls_touch, dead_is_out_of_reach, dead_is_untouched, dictionaries_step, dictionaries_touch,
-    freshness_holds, left_stays_out, machines_touch, parts_touch, steps_touch, walks_touch,
+    calls_touch, dictionaries_step, dictionaries_touch, machines_touch, parts_touch, steps_touch,
+    walks_touch,
 };
+pub use untouched::{dead_is_out_of_reach, dead_is_untouched, freshness_holds, left_stays_out};

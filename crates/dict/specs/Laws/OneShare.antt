@@ -1,5 +1,5 @@
--- A pass at rest has one share left: two that it rests with, and that end at the same place, are the
--- same.
+-- A pass at rest has one share left: two that it rests with, and that end at the same place, are
+-- the same.
 use Rattle.std.proofs.Common.{◌≡◌, ℕ, ◌<◌, arith}
 use Rattle.histories.specs.Common.{Layout, History, Call, Remaining, IsOwnNode, IsOwnScx}
 use Rattle.prims.specs.Shares.{IsShare, share_end}

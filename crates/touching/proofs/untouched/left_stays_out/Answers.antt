@@ -1,6 +1,6 @@
 use Rattle.touching.proofs.Left.{left_since}
 use Rattle.touching.proofs.Reaching.{reached_there}
-use Rattle.touching.proofs.laws.left_stays_out.Goals as goal
+use Rattle.touching.proofs.untouched.left_stays_out.Goals as goal
 
 pub returns-clause-out : goal.returns-clause-out
 returns-clause-out g = left_since

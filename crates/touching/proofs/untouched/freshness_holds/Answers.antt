@@ -1,7 +1,7 @@
 use Rattle.touching.proofs.Fresh.{final_covered, finished_named}
 use Rattle.arena.proofs.Lemmas.{ends_self}
 use Rattle.touching.proofs.Left.{left_covered}
-use Rattle.touching.proofs.laws.freshness_holds.Goals as goal
+use Rattle.touching.proofs.untouched.freshness_holds.Goals as goal
 
 pub returns-clause-nodes : goal.returns-clause-nodes
 returns-clause-nodes g = λ c h n l since. final_covered c h l since n

@@ -1,6 +1,6 @@
 use Rattle.touching.proofs.Dead.{dead_node, dead_scx, left_named}
 use Rattle.touching.proofs.Left.{left_or_final, left_scx, left_untouched}
-use Rattle.touching.proofs.laws.dead_is_untouched.Goals as goal
+use Rattle.touching.proofs.untouched.dead_is_untouched.Goals as goal
 
 pub returns-clause-nodes : goal.returns-clause-nodes
 returns-clause-nodes g = dead_node

@@ -1,6 +1,6 @@
 use Rattle.touching.proofs.Stepping.{no_dead_node, no_dead_scx, no_left_node}
 use Rattle.touching.proofs.Storing.{paused_rested}
-use Rattle.touching.proofs.laws.dead_is_out_of_reach.Goals as goal
+use Rattle.touching.proofs.untouched.dead_is_out_of_reach.Goals as goal
 
 pub returns-clause-rested : goal.returns-clause-rested
 returns-clause-rested g = paused_rested
