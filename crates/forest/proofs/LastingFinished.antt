@@ -20,8 +20,8 @@ use Rattle.slots.specs.Held.{IsHeld}
 use Rattle.slots.specs.Lasting.{Lasting, slot_of, table_place}
 use Rattle.slots.proofs.Lemmas.{name_record, untaken_zero}
 use Rattle.forest.specs.TableRule.{ByOthers, history_of, past_of, seat_view}
-use Rattle.forest.specs.LastingMemory.{IsGone, IsHeldName, IsNoteSo, Present, RemembersNames, RemembersWell, record_at}
-use Rattle.forest.specs.LastingNotes.{IsIn, memory_done, memory_looked_at, memory_over, noted_as}
+use Rattle.forest.specs.LastingMemory.{IsOutForGood, IsHeldName, IsNoteSo, Present, RemembersNames, RemembersWell, record_at}
+use Rattle.forest.specs.LastingNotes.{IsAmongThese, memory_done, memory_looked_at, memory_over, noted_as}
 use Rattle.forest.specs.LastingRule.{LearnsWith, TableLasts}
 use Rattle.forest.specs.declared.view.SeatView.{SeatView}
 use Rattle.forest.specs.declared.memory.PassMemory.{PassMemory}
@@ -114,7 +114,7 @@ module _ (allows : Layout → History → ℕ → Type 0) (t : Lasting) (plantin
   when_held : IsHeld t kept.run.held (the_node n) → WasDoneWith t.lay (history_of planting kept.run.rows) s j
   when_held is = named_other (λ e. other (kept.run.window.shows (node n Info) (name_record t kept.run.window.lasting (slot_of t (the_node n)) (the_node n) (kept.run.window.names.own (slot_of t (the_node n)) (the_node n) is)) is ∙ e))
 
-  when_gone : IsGone t.lay (history_of planting kept.run.rows) kept.run.last n → WasDoneWith t.lay (history_of planting kept.run.rows) s j
+  when_gone : IsOutForGood t.lay (history_of planting kept.run.rows) kept.run.last n → WasDoneWith t.lay (history_of planting kept.run.rows) s j
   when_gone (inl final) = (h, ends_self h, finished, inr (inl (subst (λ m. is_final (log t.lay h) m ≡ true) (sym is_member) final)))
   when_gone (inr (inl left)) = (h, ends_self h, finished, inr (inr (subst (HasLeft h) (sym is_member) left)))
   when_gone (inr (inr z)) = named_other (λ e. real (sym e ∙ unborn_info t.lay h n kept.run.window.run (stays h z.0 (kept.run.last z.0) n z.1 kept.run.window.run (kept.run.window.rested z.0 z.1) z.2).never))
@@ -133,7 +133,7 @@ module _ (allows : Layout → History → ℕ → Type 0) (t : Lasting) (plantin
 abbrev pub Looks : Layout → Type 0
 Looks lay = (h : History) (s : ℕ) → IsMapRun lay h → s ≢ 0 → ((j : ℕ) → j < count h s → WasDoneWith lay h s j) → IsNamedByLeft lay h s
 
-module _ (allows : Layout → History → ℕ → Type 0) (t : Lasting) (planting : PlantingView) (stays : StaysUnborn t.lay) (slots id : ℕ) (me : Me ℕ SeatView) (p : SeatedPass) (one : me.0.passes ≡ p ∷ []) (s : ScxNo) (held : IsIn (Scx s) p.memory.holds) (taken : IsTakenScx (past_of p []) s.0) (between : AreFinished p.layout p.number.0 0 (past_of p [])) where
+module _ (allows : Layout → History → ℕ → Type 0) (t : Lasting) (planting : PlantingView) (stays : StaysUnborn t.lay) (slots id : ℕ) (me : Me ℕ SeatView) (p : SeatedPass) (one : me.0.passes ≡ p ∷ []) (s : ScxNo) (held : IsAmongThese (Scx s) p.memory.holds) (taken : IsTakenScx (past_of p []) s.0) (between : AreFinished p.layout p.number.0 0 (past_of p [])) where
   module _ (st : State ℕ SeatView) (kept : TableLasts allows t planting st) (fits : get_elem? st.views id ≡ some me.0) where
     abbrev before : Present
     before = now allows t planting st kept id me.0 fits p one
@@ -212,7 +212,7 @@ module _ (allows : Layout → History → ℕ → Type 0) (t : Lasting) (plantin
       )
 
   -- it is dead once it was done with each of its nodes, at a load of any word
-  pub lasting_over : Looks t.lay → (at : ℕ) → ((j : ℕ) → j < count (past_of p []) s.0 → IsIn (noted_as (Scx s) (DoneWith j)) p.memory.notes) → Allows (TableLasts allows t planting) slots id me at (λ v. v) (λ v w. LearnsWith allows (memory_over p.memory s) me.0 w.0 × (w.1 ≡ me.1))
+  pub lasting_over : Looks t.lay → (at : ℕ) → ((j : ℕ) → j < count (past_of p []) s.0 → IsAmongThese (noted_as (Scx s) (DoneWith j)) p.memory.notes) → Allows (TableLasts allows t planting) slots id me at (λ v. v) (λ v w. LearnsWith allows (memory_over p.memory s) me.0 w.0 × (w.1 ≡ me.1))
   lasting_over looks at all st kept sized fits small =
       let h : History = history_of planting kept.run.rows in
       let done : (j : ℕ) → j < count h s.0 → WasDoneWith t.lay h s.0 j = λ j less. in_each (λ n. IsNoteSo t.lay planting p.number.0 (before st kept fits) (record_at n.name) n.note) (noted_as (Scx s) (DoneWith j)) p.memory.notes (all j (subst (λ c. j < c) (count_kept st kept fits) less)) (recalls st kept fits).names.notes in

@@ -15,7 +15,7 @@ use Rattle.slots.proofs.Lemmas.{seen_moves}
 use Rattle.forest.specs.Passes.{Each}
 use Rattle.forest.specs.TableRule.{Owns, history_of, seat_view, seated_pass}
 use Rattle.forest.specs.LastingMemory.{IsNoteSo, Present, RememberWell, RemembersNames, RemembersWell, present, record_at}
-use Rattle.forest.specs.LastingNotes.{IsIn}
+use Rattle.forest.specs.LastingNotes.{IsAmongThese}
 use Rattle.forest.specs.LastingRule.{TableLasts, WordsLast, plot_in}
 use Rattle.forest.specs.declared.view.SeatView.{SeatView}
 use Rattle.forest.specs.declared.memory.Noted.{Noted}
@@ -25,7 +25,7 @@ use Rattle.forest.proofs.LastingKept.{Later, Spares, StaysUnborn, remember_kept,
 use Rattle.forest.proofs.LastingSeats.{apart, now, own, set_self, well}
 
 -- what is so of each, is so of one of them
-pub in_each : {A : Type 0} (P : A → Type 0) (x : A) (xs : List A) → IsIn x xs → Each P xs → P x
+pub in_each : {A : Type 0} (P : A → Type 0) (x : A) (xs : List A) → IsAmongThese x xs → Each P xs → P x
 in_each P x [] i y = absurd i
 in_each P x (z ∷ zs) (inl e) y = subst P (sym e) y.0
 in_each P x (z ∷ zs) (inr i) y = in_each P x zs i y.1

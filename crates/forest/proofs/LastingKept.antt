@@ -19,7 +19,7 @@ use Rattle.slots.specs.Held.{Held, IsHeld}
 use Rattle.slots.specs.Lasting.{IsOwnRecord, IsUntaken, Lasting}
 use Rattle.forest.specs.Passes.{Each}
 use Rattle.forest.specs.TableRule.{Owns, history_of}
-use Rattle.forest.specs.LastingMemory.{HasPolledSo, IsEmptySlot, IsGone, IsGoneRecord, IsNoteSo, IsPollSo, IsZeroWord, Present, RememberWell, RemembersNames, RemembersWell, record_at}
+use Rattle.forest.specs.LastingMemory.{HasPolledSo, IsEmptySlot, IsOutForGood, IsGoneRecord, IsNoteSo, IsPollSo, IsZeroWord, Present, RememberWell, RemembersNames, RemembersWell, record_at}
 use Rattle.forest.specs.LastingRule.{plot_in}
 use Rattle.forest.specs.declared.view.SeatView.{SeatView}
 use Rattle.forest.specs.declared.memory.PassMemory.{PassMemory}
@@ -48,7 +48,7 @@ each_kept P Q f [] y = tt
 each_kept P Q f (x ∷ xs) y = (f x y.0, each_kept P Q f xs y.1)
 
 module _ (t : Lasting) (planting : PlantingView) (a b : Present) (x : Later t a b) (stays : StaysUnborn t.lay) where
-  pub gone_kept : (n : ℕ) → IsGone t.lay a.run a.last n → IsGone t.lay b.run b.last n
+  pub gone_kept : (n : ℕ) → IsOutForGood t.lay a.run a.last n → IsOutForGood t.lay b.run b.last n
   gone_kept n (inl y) = inl (final_since t.lay b.run a.run n x.run.1.lawful x.within y)
   gone_kept n (inr (inl y)) = inr (inl (left_since t.lay b.run a.run n x.run x.within y))
   gone_kept n (inr (inr y)) =

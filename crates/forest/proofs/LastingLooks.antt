@@ -13,7 +13,7 @@ use Rattle.slots.specs.Lasting.{Lasting}
 use Rattle.slots.proofs.Lemmas.{finds_away, polls, seen_now}
 use Rattle.forest.specs.TableRule.{history_of, seat_view}
 use Rattle.forest.specs.LastingMemory.{HasPolledSo, IsPollSo, Present, RemembersNames, RemembersWell, present}
-use Rattle.forest.specs.LastingNotes.{IsIn, memory_looked, memory_polled, waits_of}
+use Rattle.forest.specs.LastingNotes.{IsAmongThese, memory_looked, memory_polled, waits_of}
 use Rattle.forest.specs.LastingRule.{LearnsWith, TableLasts}
 use Rattle.forest.specs.declared.view.SeatView.{SeatView}
 use Rattle.forest.specs.declared.memory.PassMemory.{PassMemory}
@@ -115,7 +115,7 @@ module _ (allows : Layout → History → ℕ → Type 0) (t : Lasting) (plantin
           }
 
   -- a later look at the word of a pass that had rested so often, by a poll
-  pub lasting_polls : (poll : Polled) (seen : ℕ) → IsIn poll p.memory.polls → poll.waits ≡ Some seen → Allows (TableLasts allows t planting) slots id me (rests_place t.table poll.pass.0) (λ n. n) (λ n w. LearnsWith allows (λ rows. memory_polled p.memory poll seen n) me.0 w.0 × (w.1 ≡ me.1))
+  pub lasting_polls : (poll : Polled) (seen : ℕ) → IsAmongThese poll p.memory.polls → poll.waits ≡ Some seen → Allows (TableLasts allows t planting) slots id me (rests_place t.table poll.pass.0) (λ n. n) (λ n w. LearnsWith allows (λ rows. memory_polled p.memory poll seen n) me.0 w.0 × (w.1 ≡ me.1))
   lasting_polls poll seen there waits s kept sized fits small = go (ℕ_discrete found (2 * seen))
     where
       h : History

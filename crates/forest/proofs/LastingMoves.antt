@@ -15,7 +15,7 @@ use Rattle.slots.specs.Lasting.{IsOwnRecord, IsUntaken, Lasting, table_place}
 use Rattle.slots.specs.Window.{IsHeldStep, IsWindow}
 use Rattle.slots.proofs.Lemmas.{counts_rows, counts_stores, empty_apart, seen_rows, steps, untaken_fills}
 use Rattle.forest.specs.TableRule.{history_of, Made, Owns, past_of, row, seat_view, seated_pass}
-use Rattle.forest.specs.LastingMemory.{AreHeldOrGone, IsGone, Present, RememberWell, RemembersWell, present}
+use Rattle.forest.specs.LastingMemory.{AreHeldOrGone, IsOutForGood, Present, RememberWell, RemembersWell, present}
 use Rattle.forest.specs.LastingRule.{MayStepOn, TableLasts, plot_in}
 use Rattle.forest.specs.declared.view.SeatView.{SeatView}
 use Rattle.forest.specs.declared.memory.PassMemory.{PassMemory}
@@ -36,9 +36,9 @@ row_later t now r words w = record {
 
 row_gone : (t : Lasting) (planting : PlantingView) (now next : Present) (r : Row) → next.run ≡ r ⊳ now.run → next.held ≡ now.held → Later t now next → StaysUnborn t.lay → IsHeld t now.held (record_of r.word) → AreHeldOrGone t now → AreHeldOrGone t next
 unfolding IsTakenNode
-row_gone t planting now next r run same later stays held gone n taken = subst (λ k. IsHeld t k (the_node n) ⊎ IsGone t.lay next.run next.last n) (sym same) (go (subst (λ k. IsTakenNode k n) run taken))
+row_gone t planting now next r run same later stays held gone n taken = subst (λ k. IsHeld t k (the_node n) ⊎ IsOutForGood t.lay next.run next.last n) (sym same) (go (subst (λ k. IsTakenNode k n) run taken))
   where
-    go : IsFillOfNode n r ⊎ IsTakenNode now.run n → IsHeld t now.held (the_node n) ⊎ IsGone t.lay next.run next.last n
+    go : IsFillOfNode n r ⊎ IsTakenNode now.run n → IsHeld t now.held (the_node n) ⊎ IsOutForGood t.lay next.run next.last n
     go (inl f) = inl (subst (IsHeld t now.held) (ap record_of f.2) held)
     go (inr old) = ⊎_elim inl (λ g. inr (gone_kept t planting now next later stays n g)) (gone n old)
 

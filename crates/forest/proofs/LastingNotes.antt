@@ -14,7 +14,7 @@ use Rattle.slots.specs.Lasting.{Lasting}
 use Rattle.forest.specs.Passes.{Each}
 use Rattle.forest.specs.TableRule.{history_of, seat_view}
 use Rattle.forest.specs.LastingMemory.{IsGoneRecord, IsNoteSo, IsPollSo, Present, RemembersWell, record_at}
-use Rattle.forest.specs.LastingNotes.{HasRestedSince, IsBefore, IsIn, further, further_all, memory_noted, rested_poll}
+use Rattle.forest.specs.LastingNotes.{HasSeenAllRest, IsBefore, IsAmongThese, further, further_all, memory_noted, rested_poll}
 use Rattle.forest.specs.LastingRule.{LearnsWith, TableLasts}
 use Rattle.forest.specs.declared.view.SeatView.{SeatView}
 use Rattle.forest.specs.declared.memory.PassMemory.{PassMemory}
@@ -61,18 +61,18 @@ module _ (lay : Layout) (planting : PlantingView) (known : Periods lay) (o : ℕ
     note_goes_on x OutOfReach after y = y
     note_goes_on x (DoneWith j) after y = y
 
-    pub notes_go_on : (notes chosen : List Noted) → Each (λ n. IsNoteSo lay planting o a (record_at n.name) n.note) notes → Each (λ n. IsIn n notes × IsBefore planting snapshot n.note) chosen → Each (λ n. IsNoteSo lay planting o a (record_at n.name) n.note) (further_all rows chosen notes)
+    pub notes_go_on : (notes chosen : List Noted) → Each (λ n. IsNoteSo lay planting o a (record_at n.name) n.note) notes → Each (λ n. IsAmongThese n notes × IsBefore planting snapshot n.note) chosen → Each (λ n. IsNoteSo lay planting o a (record_at n.name) n.note) (further_all rows chosen notes)
     notes_go_on notes [] so chosen = so
     notes_go_on notes (c ∷ cs) so chosen = (note_goes_on (record_at c.name) c.note chosen.0.1 (in_each (λ n. IsNoteSo lay planting o a (record_at n.name) n.note) c notes chosen.0.0 so), notes_go_on notes cs so chosen.1)
 
 -- a pass that has polled all others has rested itself, and so have they
-rested_since : (t : Lasting) (planting : PlantingView) (a : Present) (m : PassMemory) (snapshot : List Row) → Each (IsPollSo t.lay planting a) m.polls → (o : ℕ) → Extends (a.last o) (history_of planting snapshot) → ((q : ℕ) → q < t.lay.passes → q ≢ o → (since : List Row) × IsIn (rested_poll q since) m.polls × Extends (history_of planting since) (history_of planting snapshot)) → (q : ℕ) → q < t.lay.passes → Dec (q ≡ o) → Extends (a.last q) (history_of planting snapshot)
+rested_since : (t : Lasting) (planting : PlantingView) (a : Present) (m : PassMemory) (snapshot : List Row) → Each (IsPollSo t.lay planting a) m.polls → (o : ℕ) → Extends (a.last o) (history_of planting snapshot) → ((q : ℕ) → q < t.lay.passes → q ≢ o → (since : List Row) × IsAmongThese (rested_poll q since) m.polls × Extends (history_of planting since) (history_of planting snapshot)) → (q : ℕ) → q < t.lay.passes → Dec (q ≡ o) → Extends (a.last q) (history_of planting snapshot)
 rested_since t planting a m snapshot polls o own_rest others q i (yes e) = subst (λ k. Extends (a.last k) (history_of planting snapshot)) (sym e) own_rest
 rested_since t planting a m snapshot polls o own_rest others q i (no d) = let poll = others q i d in ends_trans (a.last q) (history_of planting poll.0) (history_of planting snapshot) (in_each (IsPollSo t.lay planting a) (rested_poll q poll.0) m.polls poll.1 polls).1 poll.2
 
 module _ (allows : Layout → History → ℕ → Type 0) (t : Lasting) (planting : PlantingView) (stays : StaysUnborn t.lay) (known : Periods t.lay) (slots id : ℕ) (me : Me ℕ SeatView) (p : SeatedPass) (one : me.0.passes ≡ p ∷ []) where
   -- all have rested since the snapshot: these notes go on, at a load of any word
-  pub lasting_notes : (at : ℕ) (snapshot : List Row) (chosen : List Noted) → p.number.0 < t.lay.passes → HasRestedSince t.lay p snapshot → Each (λ n. IsIn n p.memory.notes × IsBefore p.planting (history_of p.planting snapshot) n.note) chosen → Allows (TableLasts allows t planting) slots id me at (λ n. n) (λ n w. LearnsWith allows (memory_noted p.memory chosen) me.0 w.0 × (w.1 ≡ me.1))
+  pub lasting_notes : (at : ℕ) (snapshot : List Row) (chosen : List Noted) → p.number.0 < t.lay.passes → HasSeenAllRest t.lay p snapshot → Each (λ n. IsAmongThese n p.memory.notes × IsBefore p.planting (history_of p.planting snapshot) n.note) chosen → Allows (TableLasts allows t planting) slots id me at (λ n. n) (λ n w. LearnsWith allows (memory_noted p.memory chosen) me.0 w.0 × (w.1 ≡ me.1))
   lasting_notes at snapshot chosen is_pass all picked s kept sized fits small =
       let o : ℕ = p.number.0 in
       let before : Present = now allows t planting s kept id me.0 fits p one in
@@ -87,6 +87,6 @@ module _ (allows : Layout → History → ℕ → Type 0) (t : Lasting) (plantin
         keeps,
         tt,
         noted allows t planting stays s kept id me.0 fits p one at (memory_noted p.memory chosen kept.run.rows) refl refl refl
-            (with_notes allows t planting stays s kept id me.0 fits p one at (memory_noted p.memory chosen kept.run.rows).notes (notes_go_on t.lay planting known o is_pass kept.run.rows before refl kept.run.window.run kept.run.window.rested start (ends_trans (history_of planting kept.run.rows) (kept.run.last o) start (kept.run.window.rested o is_pass).within own_rest) since p.memory.notes chosen names.notes (subst (λ g. Each (λ n. IsIn n p.memory.notes × IsBefore g (history_of g snapshot) n.note) chosen) same picked))),
+            (with_notes allows t planting stays s kept id me.0 fits p one at (memory_noted p.memory chosen kept.run.rows).notes (notes_go_on t.lay planting known o is_pass kept.run.rows before refl kept.run.window.run kept.run.window.rested start (ends_trans (history_of planting kept.run.rows) (kept.run.last o) start (kept.run.window.rested o is_pass).within own_rest) since p.memory.notes chosen names.notes (subst (λ g. Each (λ n. IsAmongThese n p.memory.notes × IsBefore g (history_of g snapshot) n.note) chosen) same picked))),
         ((kept.run.rows, learnt allows t planting s kept id me.0 fits p one refl), refl),
       )

@@ -18,7 +18,7 @@ use Rattle.touching.proofs.Lemmas.{left_since}
 use Rattle.slots.specs.Held.{IsHeld}
 use Rattle.forest.specs.TableRule.{history_of, past_of, seat_view}
 use Rattle.forest.specs.LastingMemory.{IsGoneRecord, IsHeldName, Present, RemembersWell, record_at}
-use Rattle.forest.specs.LastingNotes.{IsIn, IsUnused, memory_marked, memory_unused, noted_as, memory_left}
+use Rattle.forest.specs.LastingNotes.{IsAmongThese, IsUnneeded, memory_marked, memory_unused, noted_as, memory_left}
 use Rattle.forest.specs.LastingRule.{LearnsWith, TableLasts, LoadsWord}
 use Rattle.forest.specs.declared.view.SeatView.{SeatView}
 use Rattle.forest.specs.declared.memory.PassMemory.{PassMemory}
@@ -33,13 +33,13 @@ use Rattle.forest.proofs.LastingSeats.{aware, behind_known, learnt, now, own, we
 use Rattle.forest.proofs.LastingSlots.{taken_since}
 
 -- what was of no use is out of reach, and gone
-unused_out : (lay : Layout) (h : History) (last : ℕ → History) (o : ℕ) (x : Record) → o < lay.passes → IsUnused lay o x (last o) → IsOutOfReach lay h last x × IsGoneRecord lay h last x
+unused_out : (lay : Layout) (h : History) (last : ℕ → History) (o : ℕ) (x : Record) → o < lay.passes → IsUnneeded lay o x (last o) → IsOutOfReach lay h last x × IsGoneRecord lay h last x
 unused_out lay h last o (the_node n) i x = (unborn_out lay h last o n i x, inr (inr (o, i, x)))
 unused_out lay h last o (the_scx s) i x = (unnamed_out lay h last o s i x, tt)
 
 module _ (allows : Layout → History → ℕ → Type 0) (t : Lasting) (planting : PlantingView) (stays : StaysUnborn t.lay) (slots id : ℕ) (me : Me ℕ SeatView) (p : SeatedPass) (one : me.0.passes ≡ p ∷ []) (is_pass : p.number.0 < t.lay.passes) where
   -- a look at the mark of a node that an own slot holds
-  pub lasting_marks : (n : NodeNo) → IsIn (Node n) p.memory.holds → IsTakenNode (past_of p []) n.0 → Allows (TableLasts allows t planting) slots id me (table_place t (node n.0 Marked)) (λ v. v) (λ v w. LearnsWith allows (memory_marked p.memory (Node n) v) me.0 w.0 × (w.1 ≡ me.1))
+  pub lasting_marks : (n : NodeNo) → IsAmongThese (Node n) p.memory.holds → IsTakenNode (past_of p []) n.0 → Allows (TableLasts allows t planting) slots id me (table_place t (node n.0 Marked)) (λ v. v) (λ v w. LearnsWith allows (memory_marked p.memory (Node n) v) me.0 w.0 × (w.1 ≡ me.1))
   lasting_marks n holds taken s kept sized fits small = go (ℕ_discrete found 0)
     where
       h : History
@@ -86,12 +86,12 @@ module _ (allows : Layout → History → ℕ → Type 0) (t : Lasting) (plantin
           )
 
   -- a name that was of no use to the pass as it rested, at a load of any word
-  pub lasting_unused : (at : ℕ) (name : RecordNo) → p.memory.away ≡ false → IsUnused p.layout p.number.0 (record_at name) (history_of p.planting p.memory.rested) → Allows (TableLasts allows t planting) slots id me at (λ n. n) (λ n w. LearnsWith allows (λ rows. memory_unused p.memory name) me.0 w.0 × (w.1 ≡ me.1))
+  pub lasting_unused : (at : ℕ) (name : RecordNo) → p.memory.away ≡ false → IsUnneeded p.layout p.number.0 (record_at name) (history_of p.planting p.memory.rested) → Allows (TableLasts allows t planting) slots id me at (λ n. n) (λ n w. LearnsWith allows (λ rows. memory_unused p.memory name) me.0 w.0 × (w.1 ≡ me.1))
   lasting_unused at name there unused s kept sized fits small =
       let before : Present = now allows t planting s kept id me.0 fits p one in
       let recalls : RemembersWell t planting before p.number.0 p.memory = well allows t planting s kept id me.0 fits p one in
       let names = recalls.names in
-      let here : IsUnused t.lay p.number.0 (record_at name) (kept.run.last p.number.0) = subst (IsUnused t.lay p.number.0 (record_at name)) (sym (recalls.rested there)) (subst (λ (g : Plot). IsUnused g.layout p.number.0 (record_at name) (history_of g.planting p.memory.rested)) (own allows t planting s kept id me.0 fits p one).1 unused) in (
+      let here : IsUnneeded t.lay p.number.0 (record_at name) (kept.run.last p.number.0) = subst (IsUnneeded t.lay p.number.0 (record_at name)) (sym (recalls.rested there)) (subst (λ (g : Plot). IsUnneeded g.layout p.number.0 (record_at name) (history_of g.planting p.memory.rested)) (own allows t planting s kept id me.0 fits p one).1 unused) in (
         seat_view (aware allows t planting s kept id me.0 fits p one (memory_unused p.memory name) ∷ []),
         keeps,
         tt,
@@ -117,7 +117,7 @@ module _ (allows : Layout → History → ℕ → Type 0) (t : Lasting) (plantin
       )
 
   -- a load of a word of a name that an own slot holds
-  pub lasting_loads : (name : RecordNo) (u : Word) → IsIn name p.memory.holds → record_of u ≡ record_at name → IsWord t.lay u → Allows (TableLasts allows t planting) slots id me (table_place t u) (λ v. v) (λ v w. LoadsWord allows p u v me.0 w.0 × (w.1 ≡ me.1))
+  pub lasting_loads : (name : RecordNo) (u : Word) → IsAmongThese name p.memory.holds → record_of u ≡ record_at name → IsWord t.lay u → Allows (TableLasts allows t planting) slots id me (table_place t u) (λ v. v) (λ v w. LoadsWord allows p u v me.0 w.0 × (w.1 ≡ me.1))
   lasting_loads name u holds of_name inside s kept sized fits small =
       let before : Present = now allows t planting s kept id me.0 fits p one in
       let recalls : RemembersWell t planting before p.number.0 p.memory = well allows t planting s kept id me.0 fits p one in

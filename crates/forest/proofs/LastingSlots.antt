@@ -21,8 +21,8 @@ use Rattle.slots.specs.Window.{IsWindow}
 use Rattle.slots.proofs.Lemmas.{cleans, counts_stores, lets_go, place_inside, record_discrete, with_other, with_same}
 use Rattle.forest.specs.Passes.{Each}
 use Rattle.forest.specs.TableRule.{history_of, past_of, seat_view}
-use Rattle.forest.specs.LastingMemory.{AreHeldOrGone, IsDealt, IsEmptySlot, IsGone, IsGoneRecord, IsHeldName, IsNoteSo, IsZeroWord, Present, RemembersNames, RemembersWell, present, record_at}
-use Rattle.forest.specs.LastingNotes.{IsIn, noted_as}
+use Rattle.forest.specs.LastingMemory.{AreHeldOrGone, IsDealt, IsEmptySlot, IsOutForGood, IsGoneRecord, IsHeldName, IsNoteSo, IsZeroWord, Present, RemembersNames, RemembersWell, present, record_at}
+use Rattle.forest.specs.LastingNotes.{IsAmongThese, noted_as}
 use Rattle.forest.specs.LastingRule.{LearnsWith, TableLasts}
 use Rattle.forest.specs.LastingSlots.{IsLastDealt, IsNotBefore, memory_cleared, memory_given_back, memory_let_go, memory_without, of_others, slot_number}
 use Rattle.forest.specs.declared.view.SeatView.{SeatView}
@@ -118,7 +118,7 @@ module _ (t : Lasting) (held : Held) (x : Record) (is : IsHeld t held x) where
 module _ (allows : Layout → History → ℕ → Type 0) (t : Lasting) (planting : PlantingView) (stays : StaysUnborn t.lay) (s : State ℕ SeatView) (kept : TableLasts allows t planting s) (id : ℕ) (v : SeatView) (fits : get_elem? s.views id ≡ some v) (p : SeatedPass) (one : v.passes ≡ p ∷ []) (at : ℕ) (name : RecordNo) (nodes_to scx_to : ℕ)
     (mine : IsHeldName t p.number.0 (now allows t planting s kept id v fits p one) name)
     (reason : IsUntaken t.lay (history_of planting kept.run.rows) (record_at name) ⊎ IsOutOfReach t.lay (history_of planting kept.run.rows) kept.run.last (record_at name))
-    (gone_then : (n : ℕ) → IsTakenNode (history_of planting kept.run.rows) n → the_node n ≡ record_at name → IsGone t.lay (history_of planting kept.run.rows) kept.run.last n)
+    (gone_then : (n : ℕ) → IsTakenNode (history_of planting kept.run.rows) n → the_node n ≡ record_at name → IsOutForGood t.lay (history_of planting kept.run.rows) kept.run.last n)
     (dealt_then : (y : Record) → IsOwnRecord t.lay p.number.0 y → IsDealt (memory_without t p.memory name nodes_to scx_to) y → IsUntaken t.lay (history_of planting kept.run.rows) y → (¬ (y ≡ record_at name)) × IsDealt p.memory y)
     (undealt_then : (y : Record) → ¬ IsDealt (memory_without t p.memory name nodes_to scx_to) y → (y ≡ record_at name) ⊎ (¬ IsDealt p.memory y)) where
   abbrev o : ℕ
@@ -151,7 +151,7 @@ module _ (allows : Layout → History → ℕ → Type 0) (t : Lasting) (plantin
   gone : AreHeldOrGone t there
   gone n z = go (record_discrete (the_node n) x) (kept.run.gone n z)
     where
-      go : Dec (the_node n ≡ x) → IsHeld t kept.run.held (the_node n) ⊎ IsGone t.lay h kept.run.last n → IsHeld t held (the_node n) ⊎ IsGone t.lay h kept.run.last n
+      go : Dec (the_node n ≡ x) → IsHeld t kept.run.held (the_node n) ⊎ IsOutForGood t.lay h kept.run.last n → IsHeld t held (the_node n) ⊎ IsOutForGood t.lay h kept.run.last n
       go d (inr g) = inr g
       go (yes e) (inl is) = inr (gone_then n z e)
       go (no d) (inl is) = inl (still_held t kept.run.held x mine.1 (the_node n) d is)
@@ -192,7 +192,7 @@ module _ (allows : Layout → History → ℕ → Type 0) (t : Lasting) (plantin
 
 module _ (allows : Layout → History → ℕ → Type 0) (t : Lasting) (planting : PlantingView) (stays : StaysUnborn t.lay) (slots id : ℕ) (me : Me ℕ SeatView) (p : SeatedPass) (one : me.0.passes ≡ p ∷ []) where
   -- the slot of a name that is out of reach holds nothing from now on, at a load of any word
-  pub lasting_lets_go : (at : ℕ) (name : RecordNo) → IsIn name p.memory.holds → IsIn (noted_as name OutOfReach) p.memory.notes → IsTaken (past_of p []) (record_at name) → Allows (TableLasts allows t planting) slots id me at (λ n. n) (λ n w. LearnsWith allows (λ rows. memory_let_go t p.memory name) me.0 w.0 × (w.1 ≡ me.1))
+  pub lasting_lets_go : (at : ℕ) (name : RecordNo) → IsAmongThese name p.memory.holds → IsAmongThese (noted_as name OutOfReach) p.memory.notes → IsTaken (past_of p []) (record_at name) → Allows (TableLasts allows t planting) slots id me at (λ n. n) (λ n w. LearnsWith allows (λ rows. memory_let_go t p.memory name) me.0 w.0 × (w.1 ≡ me.1))
   lasting_lets_go at name held_name noted_so taken s kept sized fits small =
       let o : ℕ = p.number.0 in
       let x : Record = record_at name in
@@ -213,7 +213,7 @@ module _ (allows : Layout → History → ℕ → Type 0) (t : Lasting) (plantin
       )
 
   -- The last name that is dealt is given back, if the pass has it left of its share.
-  pub lasting_gives_back : (at : ℕ) (name : RecordNo) (left : Remaining) → p.number.0 < t.lay.passes → IsIn name p.memory.holds → IsLastDealt p.memory (record_at name) → IsShare p.layout (past_of p []) p.number.0 left left.next_node left.next_scx → IsNotBefore left (record_at name) → Allows (TableLasts allows t planting) slots id me at (λ n. n) (λ n w. LearnsWith allows (λ rows. memory_given_back t p.memory name) me.0 w.0 × (w.1 ≡ me.1))
+  pub lasting_gives_back : (at : ℕ) (name : RecordNo) (left : Remaining) → p.number.0 < t.lay.passes → IsAmongThese name p.memory.holds → IsLastDealt p.memory (record_at name) → IsShare p.layout (past_of p []) p.number.0 left left.next_node left.next_scx → IsNotBefore left (record_at name) → Allows (TableLasts allows t planting) slots id me at (λ n. n) (λ n w. LearnsWith allows (λ rows. memory_given_back t p.memory name) me.0 w.0 × (w.1 ≡ me.1))
   lasting_gives_back at name left is_pass held_name is_last share its_left s kept sized fits small = (
     seat_view (aware allows t planting s kept id me.0 fits p one (memory_given_back t p.memory name) ∷ []),
     keeps,
@@ -270,7 +270,7 @@ module _ (allows : Layout → History → ℕ → Type 0) (t : Lasting) (plantin
           scx_undealt i e (the_node j) d = inr d
 
   -- a word of a slot that holds nothing is stored 0
-  pub lasting_clears : (u : Word) (slot : RecordNo) → IsIn slot p.memory.empty → record_at slot ≡ record_of u → IsWord t.table u → Allows (TableLasts allows t planting) slots id me (place t.table u) (λ n. 0) (λ n w. LearnsWith allows (λ rows. memory_cleared p.memory u) me.0 w.0 × (w.1 ≡ me.1))
+  pub lasting_clears : (u : Word) (slot : RecordNo) → IsAmongThese slot p.memory.empty → record_at slot ≡ record_of u → IsWord t.table u → Allows (TableLasts allows t planting) slots id me (place t.table u) (λ n. 0) (λ n w. LearnsWith allows (λ rows. memory_cleared p.memory u) me.0 w.0 × (w.1 ≡ me.1))
   lasting_clears u slot empty of_slot is_word s kept sized fits small = (
     seat_view (aware allows t planting s kept id me.0 fits p one (memory_cleared p.memory u) ∷ []),
     keeps,

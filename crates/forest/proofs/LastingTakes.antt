@@ -19,8 +19,8 @@ use Rattle.slots.proofs.Lemmas.{none_passed, passes_over, record_discrete, rest_
 use Rattle.forest.specs.LastingSlots.{IsNotBefore}
 use Rattle.forest.specs.Passes.{Each}
 use Rattle.forest.specs.TableRule.{history_of, Owns, seat_view, seated_pass}
-use Rattle.forest.specs.LastingMemory.{AreHeldOrGone, IsDealt, IsEmptySlot, IsGone, IsZeroWord, Present, RemembersNames, RemembersWell, present, record_at}
-use Rattle.forest.specs.LastingNames.{MayTake, memory_with, memory_with_node, memory_with_scx, node_ahead, past_nodes, past_scxs, scx_ahead}
+use Rattle.forest.specs.LastingMemory.{AreHeldOrGone, IsDealt, IsEmptySlot, IsOutForGood, IsZeroWord, Present, RemembersNames, RemembersWell, present, record_at}
+use Rattle.forest.specs.LastingNames.{MayGiveName, memory_with, memory_with_node, memory_with_scx, node_ahead, past_nodes, past_scxs, scx_ahead}
 use Rattle.forest.specs.LastingRule.{GoesOnWith, TableLasts, plot_in, LearnsWith}
 use Rattle.forest.specs.declared.view.SeatView.{SeatView}
 use Rattle.forest.specs.declared.memory.PassMemory.{PassMemory}
@@ -52,7 +52,7 @@ module _ (t : Lasting) (held : Held) (slot x : Record) (none : held slot ≡ Non
 
 -- It may give the slot this name, once the run has gone on to these rows; then it remembers so
 -- much.
-module _ (allows : Layout → History → ℕ → Type 0) (t : Lasting) (planting : PlantingView) (stays : StaysUnborn t.lay) (s : State ℕ SeatView) (kept : TableLasts allows t planting s) (id : ℕ) (v : SeatView) (fits : get_elem? s.views id ≡ some v) (p : SeatedPass) (one : v.passes ≡ p ∷ []) (at : ℕ) (left : Remaining) (name slot : RecordNo) (nodes_to scx_to : ℕ) (may : MayTake t p left name slot) where
+module _ (allows : Layout → History → ℕ → Type 0) (t : Lasting) (planting : PlantingView) (stays : StaysUnborn t.lay) (s : State ℕ SeatView) (kept : TableLasts allows t planting s) (id : ℕ) (v : SeatView) (fits : get_elem? s.views id ≡ some v) (p : SeatedPass) (one : v.passes ≡ p ∷ []) (at : ℕ) (left : Remaining) (name slot : RecordNo) (nodes_to scx_to : ℕ) (may : MayGiveName t p left name slot) where
   abbrev o : ℕ
   o = p.number.0
 
@@ -121,7 +121,7 @@ module _ (allows : Layout → History → ℕ → Type 0) (t : Lasting) (plantin
     still_held : (y : Record) → IsHeld t kept.run.held y → IsHeld t held y
     still_held = still t kept.run.held (record_at slot) x none
 
-    unborn : (n : ℕ) → IsTakenNode k n → IsOwnNode t.lay o n × (¬ WasInTree k n) → IsGone t.lay k last n
+    unborn : (n : ℕ) → IsTakenNode k n → IsOwnNode t.lay o n × (¬ WasInTree k n) → IsOutForGood t.lay k last n
     unborn n z y = inr (inr (o, may.is_pass, record { own = y.0; taken = subst (λ l. IsTakenNode l n) (sym (rest_same kept.run.last o k)) z; never = subst (λ l. ¬ WasInTree l n) (sym (rest_same kept.run.last o k)) y.1 }))
 
     gone : AreHeldOrGone t there
@@ -166,7 +166,7 @@ module _ (allows : Layout → History → ℕ → Type 0) (t : Lasting) (plantin
 
 module _ (allows : Layout → History → ℕ → Type 0) (t : Lasting) (planting : PlantingView) (stays : StaysUnborn t.lay) (slots id : ℕ) (me : Me ℕ SeatView) (p : SeatedPass) (one : me.0.passes ≡ p ∷ []) (at count : ℕ) (left : Remaining) (slot : RecordNo) where
   -- the next name of a node but so many, at a load of any word
-  pub lasting_nodes : MayTake t p left (node_ahead p.memory count) slot → left.next_node ≡ p.memory.nodes_to → Allows (TableLasts allows t planting) slots id me at (λ n. n) (λ n w. GoesOnWith allows (past_nodes p.number.0 p.memory.nodes_to count) (memory_with_node p.memory count slot) me.0 w.0 × (w.1 ≡ me.1))
+  pub lasting_nodes : MayGiveName t p left (node_ahead p.memory count) slot → left.next_node ≡ p.memory.nodes_to → Allows (TableLasts allows t planting) slots id me at (λ n. n) (λ n w. GoesOnWith allows (past_nodes p.number.0 p.memory.nodes_to count) (memory_with_node p.memory count slot) me.0 w.0 × (w.1 ≡ me.1))
   lasting_nodes may all s kept sized fits small = (
     seat_view (seated_pass o p.layout p.planting (memory_with_node p.memory count slot rows) rows ∷ []),
     keeps,
@@ -245,7 +245,7 @@ module _ (allows : Layout → History → ℕ → Type 0) (t : Lasting) (plantin
       }
 
   -- and of an SCX-record
-  pub lasting_scx : MayTake t p left (scx_ahead p.memory count) slot → left.next_scx ≡ p.memory.scx_to → Allows (TableLasts allows t planting) slots id me at (λ n. n) (λ n w. GoesOnWith allows (past_scxs p.number.0 p.memory.scx_to count) (memory_with_scx p.memory count slot) me.0 w.0 × (w.1 ≡ me.1))
+  pub lasting_scx : MayGiveName t p left (scx_ahead p.memory count) slot → left.next_scx ≡ p.memory.scx_to → Allows (TableLasts allows t planting) slots id me at (λ n. n) (λ n w. GoesOnWith allows (past_scxs p.number.0 p.memory.scx_to count) (memory_with_scx p.memory count slot) me.0 w.0 × (w.1 ≡ me.1))
   lasting_scx may all s kept sized fits small = (
     seat_view (seated_pass o p.layout p.planting (memory_with_scx p.memory count slot rows) rows ∷ []),
     keeps,
@@ -324,7 +324,7 @@ module _ (allows : Layout → History → ℕ → Type 0) (t : Lasting) (plantin
 
 -- The name behind those that are dealt, of which some may be left, with none passed over.
 module _ (allows : Layout → History → ℕ → Type 0) (t : Lasting) (planting : PlantingView) (stays : StaysUnborn t.lay) (slots id : ℕ) (me : Me ℕ SeatView) (p : SeatedPass) (one : me.0.passes ≡ p ∷ []) (at : ℕ) (left : Remaining) (slot : RecordNo) where
-  next_taken : (name : RecordNo) (nodes_to scx_to : ℕ) → MayTake t p left name slot → IsNotBefore left (record_at name)
+  next_taken : (name : RecordNo) (nodes_to scx_to : ℕ) → MayGiveName t p left name slot → IsNotBefore left (record_at name)
       → ((rows : List Row) (y : Record) → IsDealt (memory_with p.memory name slot nodes_to scx_to rows) y → (y ≡ record_at name) ⊎ IsDealt p.memory y)
       → ((rows : List Row) (y : Record) → ¬ IsDealt (memory_with p.memory name slot nodes_to scx_to rows) y → ¬ IsDealt p.memory y)
       → ((rows : List Row) → IsDealt (memory_with p.memory name slot nodes_to scx_to rows) (record_at name))
@@ -344,7 +344,7 @@ module _ (allows : Layout → History → ℕ → Type 0) (t : Lasting) (plantin
     ((kept.run.rows, learnt allows t planting s kept id me.0 fits p one refl), refl),
   )
 
-  pub lasting_next_node : MayTake t p left (node_ahead p.memory 0) slot → IsNotBefore left (record_at (node_ahead p.memory 0)) → Allows (TableLasts allows t planting) slots id me at (λ n. n) (λ n w. LearnsWith allows (memory_with_node p.memory 0 slot) me.0 w.0 × (w.1 ≡ me.1))
+  pub lasting_next_node : MayGiveName t p left (node_ahead p.memory 0) slot → IsNotBefore left (record_at (node_ahead p.memory 0)) → Allows (TableLasts allows t planting) slots id me at (λ n. n) (λ n w. LearnsWith allows (memory_with_node p.memory 0 slot) me.0 w.0 × (w.1 ≡ me.1))
   lasting_next_node may is_left = next_taken (node_ahead p.memory 0) (p.memory.nodes_to + 1) p.memory.scx_to may is_left dealt undealt (λ rows. omega arith)
     where
       dealt : (rows : List Row) (y : Record) → IsDealt (memory_with_node p.memory 0 slot rows) y → (y ≡ the_node (p.memory.nodes_to + 0)) ⊎ IsDealt p.memory y
@@ -359,7 +359,7 @@ module _ (allows : Layout → History → ℕ → Type 0) (t : Lasting) (plantin
       undealt rows (the_node n) d z = d (omega (arith, z))
       undealt rows (the_scx i) d z = d z
 
-  pub lasting_next_scx : MayTake t p left (scx_ahead p.memory 0) slot → IsNotBefore left (record_at (scx_ahead p.memory 0)) → Allows (TableLasts allows t planting) slots id me at (λ n. n) (λ n w. LearnsWith allows (memory_with_scx p.memory 0 slot) me.0 w.0 × (w.1 ≡ me.1))
+  pub lasting_next_scx : MayGiveName t p left (scx_ahead p.memory 0) slot → IsNotBefore left (record_at (scx_ahead p.memory 0)) → Allows (TableLasts allows t planting) slots id me at (λ n. n) (λ n w. LearnsWith allows (memory_with_scx p.memory 0 slot) me.0 w.0 × (w.1 ≡ me.1))
   lasting_next_scx may is_left = next_taken (scx_ahead p.memory 0) p.memory.nodes_to (p.memory.scx_to + 1) may is_left dealt undealt (λ rows. omega arith)
     where
       dealt : (rows : List Row) (y : Record) → IsDealt (memory_with_scx p.memory 0 slot rows) y → (y ≡ the_scx (p.memory.scx_to + 0)) ⊎ IsDealt p.memory y

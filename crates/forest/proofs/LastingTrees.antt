@@ -14,7 +14,7 @@ use Rattle.resting.specs.Rests.{HaveRestedAt}
 use Rattle.slots.specs.Held.{IsHeld}
 use Rattle.slots.specs.Lasting.{Lasting, table_place}
 use Rattle.forest.specs.TableRule.{history_of}
-use Rattle.forest.specs.LastingMemory.{IsGone}
+use Rattle.forest.specs.LastingMemory.{IsOutForGood}
 use Rattle.forest.specs.LastingRule.{TableLasts}
 use Rattle.forest.specs.declared.view.SeatView.{SeatView}
 use Rattle.forest.proofs.LastingKept.{StaysUnborn}
@@ -55,7 +55,7 @@ stands : (h : History) (n : ℕ) → IsInTree h n → WasInTree h n
 stands h n x = record { moment = h; within = ends_self h; tree = x.tree; is_tree = x.is_tree; has = x.has }
 
 -- what is gone is not in the tree
-not_gone : (lay : Layout) (h : History) (last : ℕ → History) (n : ℕ) → IsMapRun lay h → HaveRestedAt lay h last → StaysUnborn lay → IsInTree h n → ¬ IsGone lay h last n
+not_gone : (lay : Layout) (h : History) (last : ℕ → History) (n : ℕ) → IsMapRun lay h → HaveRestedAt lay h last → StaysUnborn lay → IsInTree h n → ¬ IsOutForGood lay h last n
 not_gone lay h last n run rested stays there (inl final) = true≢false (sym final ∙ there_not_final lay h n run there)
 not_gone lay h last n run rested stays there (inr (inl left)) = left.out there
 not_gone lay h last n run rested stays there (inr (inr z)) = (stays h z.0 (last z.0) n z.1 run (rested z.0 z.1) z.2).never (stands h n there)

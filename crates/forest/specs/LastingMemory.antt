@@ -38,17 +38,17 @@ present words run last held tally = record { words = words; run = run; last = la
 
 -- The node is final, has left, or was never put in as its pass rested. So it is not in the tree,
 -- and never comes there any more.
-abbrev pub IsGone : Layout → History → (ℕ → History) → ℕ → Type 0
-IsGone lay h last n = (is_final (log lay h) n ≡ true) ⊎ (HasLeft h n ⊎ ((p : ℕ) × (p < lay.passes) × IsUnborn lay p (last p) n))
+abbrev pub IsOutForGood : Layout → History → (ℕ → History) → ℕ → Type 0
+IsOutForGood lay h last n = (is_final (log lay h) n ≡ true) ⊎ (HasLeft h n ⊎ ((p : ℕ) × (p < lay.passes) × IsUnborn lay p (last p) n))
 
 -- so it is with each node; of an SCX-record nothing is to be said
 abbrev pub IsGoneRecord : Layout → History → (ℕ → History) → Record → Type 0
-IsGoneRecord lay h last (the_node n) = IsGone lay h last n
+IsGoneRecord lay h last (the_node n) = IsOutForGood lay h last n
 IsGoneRecord lay h last (the_scx s) = Unit {0}
 
 -- each node that was taken is held, or gone
 abbrev pub AreHeldOrGone : Lasting → Present → Type 0
-AreHeldOrGone t now = (n : ℕ) → IsTakenNode now.run n → IsHeld t now.held (the_node n) ⊎ IsGone t.lay now.run now.last n
+AreHeldOrGone t now = (n : ℕ) → IsTakenNode now.run n → IsHeld t now.held (the_node n) ⊎ IsOutForGood t.lay now.run now.last n
 
 -- at a moment when it was finished the SCX-record was done with that node
 abbrev pub IsDoneWith : Layout → History → Record → ℕ → Type 0

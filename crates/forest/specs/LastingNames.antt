@@ -11,8 +11,8 @@ use Rattle.slots.specs.Lasting.{IsOwnName, Lasting, slot_of}
 use Rattle.slots.specs.Passing.{row_over}
 use Rattle.forest.specs.TableRule.{history_of, past_of}
 use Rattle.forest.specs.LastingMemory.{record_at}
-use Rattle.forest.specs.LastingNotes.{IsIn}
-use Rattle.forest.specs.LastingSlots.{of_others, without}
+use Rattle.forest.specs.LastingNotes.{IsAmongThese}
+use Rattle.forest.specs.LastingSlots.{of_others, names_without}
 use Rattle.forest.specs.declared.memory.PassMemory.{PassMemory}
 use Rattle.forest.specs.declared.memory.RecordNo.{RecordNo}
 use Rattle.forest.specs.declared.memory.RecordNo.TheVariants.{Node, Scx}
@@ -55,7 +55,7 @@ memory_with m name slot nodes_to scx_to rows = record m {
   nodes_to = nodes_to;
   scx_to = scx_to;
   holds = name ∷ m.holds;
-  empty = without (record_at slot) m.empty;
+  empty = names_without (record_at slot) m.empty;
   zeros = without_words (record_at slot) m.zeros;
 }
 
@@ -68,12 +68,12 @@ memory_with_scx m count slot = memory_with m (scx_ahead m count) slot m.nodes_to
 
 -- A pass that is there and between two calls, which has so much left of its share, may give the
 -- slot the name: it is its own, and this its slot, which holds nothing, and whose words are all 0.
-pub record MayTake (t : Lasting) (p : SeatedPass) (left : Remaining) (name slot : RecordNo) : Type 0 where
+pub record MayGiveName (t : Lasting) (p : SeatedPass) (left : Remaining) (name slot : RecordNo) : Type 0 where
   pub is_pass : p.number.0 < t.lay.passes
   pub there : p.memory.away ≡ false
   pub share : IsShare p.layout (past_of p []) p.number.0 left left.next_node left.next_scx
   pub over : AreFinished p.layout p.number.0 0 (past_of p [])
   pub own : IsOwnName t p.number.0 (record_at name)
   pub slot_is : slot_of t (record_at name) ≡ record_at slot
-  pub empty : IsIn slot p.memory.empty
-  pub zeros : (w : Word) → IsWord t.table w → record_of w ≡ record_at slot → IsIn w p.memory.zeros
+  pub empty : IsAmongThese slot p.memory.empty
+  pub zeros : (w : Word) → IsWord t.table w → record_of w ≡ record_at slot → IsAmongThese w p.memory.zeros

@@ -41,9 +41,9 @@ abbrev pub memory_polled : PassMemory → Polled → (seen n : ℕ) → PassMemo
 memory_polled m poll seen n = if n == 2 * seen then m else record m { polls = record poll { waits = None } ∷ m.polls }
 
 -- x is one of these
-abbrev pub IsIn : {A : Type 0} → A → List A → Type 0
-IsIn x [] = ⊥
-IsIn x (y ∷ ys) = (x ≡ y) ⊎ IsIn x ys
+abbrev pub IsAmongThese : {A : Type 0} → A → List A → Type 0
+IsAmongThese x [] = ⊥
+IsAmongThese x (y ∷ ys) = (x ≡ y) ⊎ IsAmongThese x ys
 
 -- what a look has told of the pass q: it has rested since these rows
 abbrev pub rested_poll : ℕ → List Row → Polled
@@ -51,10 +51,10 @@ rested_poll q rows = record { pass = record { 0 = q }; since = rows; waits = Non
 
 -- The pass is there, and has rested since these rows, and it has polled that so has each other,
 -- each since a moment of its own.
-pub record HasRestedSince (lay : Layout) (p : SeatedPass) (rows : List Row) : Type 0 where
+pub record HasSeenAllRest (lay : Layout) (p : SeatedPass) (rows : List Row) : Type 0 where
   pub there : p.memory.away ≡ false
   pub own : Extends (history_of p.planting p.memory.rested) (history_of p.planting rows)
-  pub others : (q : ℕ) → q < lay.passes → q ≢ p.number.0 → (since : List Row) × IsIn (rested_poll q since) p.memory.polls × Extends (history_of p.planting since) (history_of p.planting rows)
+  pub others : (q : ℕ) → q < lay.passes → q ≢ p.number.0 → (since : List Row) × IsAmongThese (rested_poll q since) p.memory.polls × Extends (history_of p.planting since) (history_of p.planting rows)
 
 -- the note is of that moment, or of one before
 abbrev pub IsBefore : PlantingView → History → NoteView → Type 0
@@ -90,9 +90,9 @@ memory_left m n rows = record m { notes = noted_as (Node n) (MarkedOrDead rows) 
 
 -- The name is the pass's own, taken as it rested: of a node that was never put in by then, or of a
 -- finished SCX-record that no info had named.
-abbrev pub IsUnused : Layout → ℕ → Record → History → Type 0
-IsUnused lay o (the_node n) rest = IsUnborn lay o rest n
-IsUnused lay o (the_scx s) rest = IsUnnamedScx lay o rest s
+abbrev pub IsUnneeded : Layout → ℕ → Record → History → Type 0
+IsUnneeded lay o (the_node n) rest = IsUnborn lay o rest n
+IsUnneeded lay o (the_scx s) rest = IsUnnamedScx lay o rest s
 
 -- what is remembered of such a name: it is out of reach
 abbrev pub memory_unused : PassMemory → RecordNo → PassMemory

@@ -20,13 +20,13 @@ of_others of x [] = []
 of_others of x (a ∷ xs) = if same_record (of a) x then of_others of x xs else a ∷ of_others of x xs
 
 -- these names without that one
-abbrev pub without : Record → List RecordNo → List RecordNo
-without = of_others record_at
+abbrev pub names_without : Record → List RecordNo → List RecordNo
+names_without = of_others record_at
 
 -- What is remembered once the slot of the name holds nothing, and names up to these two are dealt;
 -- and if as many are dealt as before.
 abbrev pub memory_without : Lasting → PassMemory → RecordNo → (nodes_to scx_to : ℕ) → PassMemory
-memory_without t m name nodes_to scx_to = record m { nodes_to = nodes_to; scx_to = scx_to; holds = without (record_at name) m.holds; empty = slot_number t name ∷ m.empty }
+memory_without t m name nodes_to scx_to = record m { nodes_to = nodes_to; scx_to = scx_to; holds = names_without (record_at name) m.holds; empty = slot_number t name ∷ m.empty }
 
 abbrev pub memory_let_go : Lasting → PassMemory → RecordNo → PassMemory
 memory_let_go t m name = memory_without t m name m.nodes_to m.scx_to

@@ -10,6 +10,7 @@ mod dictionary;
 mod fault;
 mod forest;
 mod lasting_laws;
+mod lasting_sights;
 mod meet;
 mod memory;
 mod open;
@@ -24,9 +25,7 @@ pub use arena::{Full, Resource};
 pub use close::Closed;
 pub use fault::{NewFault, OrderFault, PairsFault, UpdateFault};
 pub use forest::Forest;
-pub use lasting_laws::{
-    finished_last, looks_last, names_last, rests_last, seats_last, sights_last, slots_last,
-    steps_last, trees_last,
-};
+pub use lasting_laws::{looks_last, names_last, rests_last, seats_last, slots_last, steps_last};
+pub use lasting_sights::{finished_last, sights_last, trees_last};
 pub use open::{OpenCall, Stepped};
 pub use pass::Pass;

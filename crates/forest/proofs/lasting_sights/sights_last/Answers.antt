@@ -1,5 +1,5 @@
 use Rattle.forest.proofs.LastingSees.{lasting_left, lasting_loads, lasting_marks, lasting_unused}
-use Rattle.forest.proofs.lasting_laws.sights_last.Goals as goal
+use Rattle.forest.proofs.lasting_sights.sights_last.Goals as goal
 
 pub returns-clause-marks : goal.returns-clause-marks
 returns-clause-marks g c = λ t planting slots id me p node one is_pass. lasting_marks g.S.Shape.allows t planting (λ h o rest n. c.unborn_stays_out.ensures.stays t.lay h o rest n) slots id me p one is_pass node

@@ -1,5 +1,5 @@
 use Rattle.forest.proofs.LastingFinished.{lasting_done, lasting_looked_at, lasting_over}
-use Rattle.forest.proofs.lasting_laws.finished_last.Goals as goal
+use Rattle.forest.proofs.lasting_sights.finished_last.Goals as goal
 
 pub returns-clause-looks : goal.returns-clause-looks
 returns-clause-looks g c = λ t planting slots id me p s j n one held taken between. lasting_looked_at g.S.Shape.allows t planting (λ h o rest i. c.unborn_stays_out.ensures.stays t.lay h o rest i) slots id me p one s held taken between j n
