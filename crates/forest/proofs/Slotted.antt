@@ -3,7 +3,7 @@ use Rattle.std.proofs.Common.{◌≡◌, ◌<◌, ap, sym, subst}
 use Rattle.std.proofs.Math.Nat.{mod-eq_of_lt}
 use Rattle.arena.specs.Layout.{node_start, scx_start, start_of}
 use Rattle.histories.specs.Common.{Layout, NodeNo, ScxNo, Word, Node, Scx, IsWord, all_nodes, all_scx}
-use Rattle.forest.specs.Slotted.{in_place, names_in, node_begins, scx_begins, slots_in, word_begins}
+use Rattle.forest.specs.Slotted.{in_place, names_of_table, node_begins, scx_begins, slots_of_table, word_begins}
 use Rattle.forest.specs.declared.rule.Plot.{Plot}
 
 pub node_in_place : (lay : Layout) (n : NodeNo) → n.0 < all_nodes lay → node_begins (in_place lay) n ≡ node_start lay n
@@ -17,11 +17,11 @@ word_in_place lay (Node n part) i = node_in_place lay n i
 word_in_place lay (Scx s part) i = scx_in_place lay s i.0
 
 -- so it is of a table of this layout
-pub node_of_table : (plot : Plot) (lay : Layout) → plot.layout ≡ lay → (n : NodeNo) → n.0 < all_nodes (names_in plot) → node_start lay n ≡ node_begins (slots_in plot) n
-node_of_table plot lay e n less = subst (λ (l : Layout). node_start l n ≡ node_begins (slots_in plot) n) e (sym (node_in_place plot.layout n less))
+pub node_of_table : (plot : Plot) (lay : Layout) → plot.layout ≡ lay → (n : NodeNo) → n.0 < all_nodes (names_of_table plot) → node_start lay n ≡ node_begins (slots_of_table plot) n
+node_of_table plot lay e n less = subst (λ (l : Layout). node_start l n ≡ node_begins (slots_of_table plot) n) e (sym (node_in_place plot.layout n less))
 
-pub scx_of_table : (plot : Plot) (lay : Layout) → plot.layout ≡ lay → (s : ScxNo) → s.0 < all_scx (names_in plot) → scx_start lay s ≡ scx_begins (slots_in plot) s
-scx_of_table plot lay e s less = subst (λ (l : Layout). scx_start l s ≡ scx_begins (slots_in plot) s) e (sym (scx_in_place plot.layout s less))
+pub scx_of_table : (plot : Plot) (lay : Layout) → plot.layout ≡ lay → (s : ScxNo) → s.0 < all_scx (names_of_table plot) → scx_start lay s ≡ scx_begins (slots_of_table plot) s
+scx_of_table plot lay e s less = subst (λ (l : Layout). scx_start l s ≡ scx_begins (slots_of_table plot) s) e (sym (scx_in_place plot.layout s less))
 
-pub word_of_table : (plot : Plot) (lay : Layout) → plot.layout ≡ lay → (w : Word) → IsWord (names_in plot) w → start_of lay w ≡ word_begins (slots_in plot) w
-word_of_table plot lay e w i = subst (λ (l : Layout). start_of l w ≡ word_begins (slots_in plot) w) e (sym (word_in_place plot.layout w i))
+pub word_of_table : (plot : Plot) (lay : Layout) → plot.layout ≡ lay → (w : Word) → IsWord (names_of_table plot) w → start_of lay w ≡ word_begins (slots_of_table plot) w
+word_of_table plot lay e w i = subst (λ (l : Layout). start_of l w ≡ word_begins (slots_of_table plot) w) e (sym (word_in_place plot.layout w i))

@@ -8,14 +8,14 @@ use Rattle.forest.specs.declared.view.SeatView.{SeatView}
 use Rattle.arena.specs.declared.layout.Layout.{Layout}
 use Rattle.slots.specs.Lasting.{Lasting}
 use Rattle.forest.specs.CallKinds.{Calls, calls}
-use Rattle.forest.specs.Slotted.{names_in, slots_in}
+use Rattle.forest.specs.Slotted.{names_of_table, slots_of_table}
 
 -- how the records of its table have slots, and the layout of their names
-abbrev pub slots : {S : Type 0} → Hand S → Lasting
-slots hand = slots_in hand.words.now.table.shared.key
+abbrev pub hand_slots : {S : Type 0} → Hand S → Lasting
+hand_slots hand = slots_of_table hand.words.now.table.shared.key
 
 abbrev pub names : {S : Type 0} → Hand S → Layout
-names hand = names_in hand.words.now.table.shared.key
+names hand = names_of_table hand.words.now.table.shared.key
 
 -- the seat is at the table that has its words
 abbrev pub IsAt : {S : Type 0} → Hand S → Seat ℕ SeatView → Type 0

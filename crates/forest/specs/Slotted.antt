@@ -10,12 +10,12 @@ abbrev pub in_place : Layout → Lasting
 in_place lay = record { table = lay; lay = lay; node_turn = all_nodes lay; scx_turn = all_scx lay; laps = 0 }
 
 -- how the records of a table have slots
-abbrev pub slots_in : Plot → Lasting
-slots_in plot = in_place plot.layout
+abbrev pub slots_of_table : Plot → Lasting
+slots_of_table plot = in_place plot.layout
 
 -- the layout of their names: that of the runs of its calls
-abbrev pub names_in : Plot → Layout
-names_in plot = (slots_in plot).lay
+abbrev pub names_of_table : Plot → Layout
+names_of_table plot = (slots_of_table plot).lay
 
 -- where the words of a node begin in its slot, and those of an SCX-record
 abbrev pub node_begins : Lasting → NodeNo → ℕ

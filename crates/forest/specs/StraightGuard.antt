@@ -19,7 +19,7 @@ use Rattle.forest.specs.declared.straight.node.Reached.{Reached}
 use Rattle.forest.specs.declared.view.SeatView.{SeatView}
 use Rattle.forest.specs.declared.view.SeatedPass.{SeatedPass}
 use Rattle.forest.specs.CallKinds.{Calls}
-use Rattle.forest.specs.Hands.{hand_calls, names, slots}
+use Rattle.forest.specs.Hands.{hand_calls, hand_slots, names}
 use Rattle.forest.specs.Hosts.{HostedWaits}
 use Rattle.forest.specs.Leads.{steps_made}
 use Rattle.forest.specs.Seats.{StaysAtTable}
@@ -59,5 +59,5 @@ pub record BeginsToWalk {S T M A E B : Type 0} (s : Shape T) (m : Machine M T A)
   pub table : StaysAtTable old new
   pub to : (u : Updater (hand_calls s m hand) e) → UpdaterBegins u old.me.0.passes run → UpdaterWalks u new.me.0.passes now way goal place
   pub is : now ≡ record run { guard = now.guard }
-  pub stands : AsksHead (slots hand) place.trail place.at place.start
+  pub stands : AsksHead (hand_slots hand) place.trail place.at place.start
   pub steps : steps_made new + (suc (walk_left place.at (room way (shared_nodes (names hand)))) + 64 * e.most_looks run.edit) ≤ steps_made old + (3 * (2 + room way (shared_nodes (names hand))) + 5 + 64 * all_looks (e.guard run.edit) (e.most_looks run.edit))

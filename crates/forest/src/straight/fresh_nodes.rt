@@ -2,7 +2,7 @@
 ghost use Rattle.std.specs.Prelude.{◌≡◌, ◌<◌, true, false, Ok, None, Some, IfSome};
 ghost use Rattle.arena.specs.declared.word.NodeWord.{NodeWord};
 ghost use Rattle.arena.specs.declared.word.SettledPart.{SettledPart};
-ghost use Rattle.forest.specs.Hands.{IsAt, slots};
+ghost use Rattle.forest.specs.Hands.{IsAt, hand_slots};
 ghost use Rattle.forest.specs.Leads.{steps_made};
 ghost use Rattle.forest.specs.StraightUpdate.{FillGoesOn, IsFreshPiece, StandsToFill, StandsToTry, TryGoesOn};
 ghost use Rattle.edits.specs.Pieces.{is_filled, is_leaf_piece, part_behind, word_of};
@@ -49,7 +49,7 @@ fn put<S: Shape, M: CallMachine<S>, E: Edit + Copy>(
     value: u64,
 )
     requires table { IsAt hand seat.old }
-    requires fresh { IsFreshPiece (slots hand) E.means run.now node.found.now
+    requires fresh { IsFreshPiece (hand_slots hand) E.means run.now node.found.now
         node.nth node.start node.piece.now }
     requires value { value ≡ word_of node.piece.now part }
     requires fills { StandsToFill S.Shape M.Machine E.means hand node.found.now
@@ -74,7 +74,7 @@ fn fill_word<S: Shape, M: CallMachine<S>, E: Edit + Copy>(
     part: NodeWord,
 )
     requires table { IsAt hand seat.old }
-    requires fresh { IsFreshPiece (slots hand) E.means run.now node.found.now
+    requires fresh { IsFreshPiece (hand_slots hand) E.means run.now node.found.now
         node.nth node.start node.piece.now }
     requires fills { StandsToFill S.Shape M.Machine E.means hand node.found.now
         seat.old run.now node.nth (Some part) }
@@ -98,7 +98,7 @@ fn fill<S: Shape, M: CallMachine<S>, E: Edit + Copy>(
     part: NodeWord,
 ) -> Option<NodeWord>
     requires table { IsAt hand seat.old }
-    requires fresh { IsFreshPiece (slots hand) E.means run.now node.found.now
+    requires fresh { IsFreshPiece (hand_slots hand) E.means run.now node.found.now
         node.nth node.start node.piece.now }
     requires fills { StandsToFill S.Shape M.Machine E.means hand node.found.now
         seat.old run.now node.nth (Some part) }
@@ -123,7 +123,7 @@ fn fill_high<S: Shape, M: CallMachine<S>, E: Edit + Copy>(
     high: u64,
 )
     requires table { IsAt hand seat.old }
-    requires fresh { IsFreshPiece (slots hand) E.means run.now node.found.now
+    requires fresh { IsFreshPiece (hand_slots hand) E.means run.now node.found.now
         node.nth node.start node.piece.now }
     requires value { high ≡ word_of node.piece.now (NodeWord.Settled (SettledPart.High slot)) }
     requires fills { StandsToFill S.Shape M.Machine E.means hand node.found.now seat.old run.now
@@ -151,7 +151,7 @@ fn fill_pair<S: Shape, M: CallMachine<S>, E: Edit + Copy>(
     slot: Slot,
 ) -> Option<NodeWord>
     requires table { IsAt hand seat.old }
-    requires fresh { IsFreshPiece (slots hand) E.means run.now node.found.now
+    requires fresh { IsFreshPiece (hand_slots hand) E.means run.now node.found.now
         node.nth node.start node.piece.now }
     requires fills { StandsToFill S.Shape M.Machine E.means hand node.found.now
         seat.old run.now node.nth (Some (NodeWord.Settled (SettledPart.Key slot))) }
@@ -181,7 +181,7 @@ fn fill_more<S: Shape, M: CallMachine<S>, E: Edit + Copy>(
     next: Option<NodeWord>,
 ) -> Option<NodeWord>
     requires table { IsAt hand seat.old }
-    requires fresh { IsFreshPiece (slots hand) E.means run.now node.found.now
+    requires fresh { IsFreshPiece (hand_slots hand) E.means run.now node.found.now
         node.nth node.start node.piece.now }
     requires fills { StandsToFill S.Shape M.Machine E.means hand node.found.now
         seat.old run.now node.nth next }
@@ -222,7 +222,7 @@ fn fill_last_pairs<S: Shape, M: CallMachine<S>, E: Edit + Copy>(
     next: Option<NodeWord>,
 ) -> Option<NodeWord>
     requires table { IsAt hand seat.old }
-    requires fresh { IsFreshPiece (slots hand) E.means run.now node.found.now
+    requires fresh { IsFreshPiece (hand_slots hand) E.means run.now node.found.now
         node.nth node.start node.piece.now }
     requires fills { StandsToFill S.Shape M.Machine E.means hand node.found.now
         seat.old run.now node.nth next }
@@ -251,7 +251,7 @@ fn fill_pairs<S: Shape, M: CallMachine<S>, E: Edit + Copy>(
     next: Option<NodeWord>,
 ) -> Option<NodeWord>
     requires table { IsAt hand seat.old }
-    requires fresh { IsFreshPiece (slots hand) E.means run.now node.found.now
+    requires fresh { IsFreshPiece (hand_slots hand) E.means run.now node.found.now
         node.nth node.start node.piece.now }
     requires fills { StandsToFill S.Shape M.Machine E.means hand node.found.now
         seat.old run.now node.nth next }
@@ -279,7 +279,7 @@ fn fill_leaf<S: Shape, M: CallMachine<S>, E: Edit + Copy>(
     node: FreshNode<'_>,
 )
     requires table { IsAt hand seat.old }
-    requires fresh { IsFreshPiece (slots hand) E.means run.now node.found.now
+    requires fresh { IsFreshPiece (hand_slots hand) E.means run.now node.found.now
         node.nth node.start node.piece.now }
     requires fills { StandsToFill S.Shape M.Machine E.means hand node.found.now
         seat.old run.now node.nth (Some (NodeWord.Settled SettledPart.Head)) }
@@ -306,7 +306,7 @@ fn fill_fork<S: Shape, M: CallMachine<S>, E: Edit + Copy>(
     node: FreshNode<'_>,
 )
     requires table { IsAt hand seat.old }
-    requires fresh { IsFreshPiece (slots hand) E.means run.now node.found.now
+    requires fresh { IsFreshPiece (hand_slots hand) E.means run.now node.found.now
         node.nth node.start node.piece.now }
     requires fills { StandsToFill S.Shape M.Machine E.means hand node.found.now
         seat.old run.now node.nth (Some (NodeWord.Settled SettledPart.Head)) }
@@ -332,7 +332,7 @@ fn fill_words<S: Shape, M: CallMachine<S>, E: Edit + Copy>(
     node: FreshNode<'_>,
 )
     requires table { IsAt hand seat.old }
-    requires fresh { IsFreshPiece (slots hand) E.means run.now node.found.now
+    requires fresh { IsFreshPiece (hand_slots hand) E.means run.now node.found.now
         node.nth node.start node.piece.now }
     requires fills { StandsToFill S.Shape M.Machine E.means hand node.found.now
         seat.old run.now node.nth (Some (NodeWord.Settled SettledPart.Head)) }

@@ -32,14 +32,14 @@ impl<'a, S: Shape> Clone for Hand<'a, S> {
 impl<'a, S: Shape> Copy for Hand<'a, S> {}
 
 impl<'a, S: Shape> Hand<'a, S> {
-    ghost use Rattle.forest.specs.Hands.{names, slots};
+    ghost use Rattle.forest.specs.Hands.{hand_slots, names};
     ghost use Rattle.forest.specs.Slotted.{node_begins, scx_begins, word_begins};
 
     /// Where the words of a node begin.
     #[inline(always)]
     pub(crate) fn node_start(self, node: NodeNo) -> usize
         requires { node.0 < all_nodes (names self) }
-        ensures start { result ≡ node_begins (slots self.entry) node }
+        ensures start { result ≡ node_begins (hand_slots self.entry) node }
         ensures fits { result < 4294967296 }
     {
         self.layout.node_start(self.size, node)
@@ -49,7 +49,7 @@ impl<'a, S: Shape> Hand<'a, S> {
     #[inline(always)]
     pub(crate) fn scx_start(self, scx: ScxNo) -> usize
         requires { scx.0 < all_scx (names self) }
-        ensures { result ≡ scx_begins (slots self.entry) scx }
+        ensures { result ≡ scx_begins (hand_slots self.entry) scx }
     {
         self.layout.scx_start(scx)
     }
@@ -58,7 +58,7 @@ impl<'a, S: Shape> Hand<'a, S> {
     #[inline(always)]
     pub(crate) fn start_of(self, word: Word) -> usize
         requires { IsWord (names self) word }
-        ensures { result ≡ word_begins (slots self.entry) word }
+        ensures { result ≡ word_begins (hand_slots self.entry) word }
     {
         match word {
             Word::Node(node, _) => self.node_start(node),
@@ -70,7 +70,7 @@ impl<'a, S: Shape> Hand<'a, S> {
     #[inline(always)]
     pub(crate) fn place_from(self, start: usize, word: Word) -> usize
         requires word { IsWord (names self) word }
-        requires start { start ≡ word_begins (slots self) word }
+        requires start { start ≡ word_begins (hand_slots self) word }
         ensures { IsPlaceOf self.entry.layout.now word result }
     {
         self.layout.place_from(start, word)

@@ -3,7 +3,7 @@ ghost use Rattle.std.specs.Prelude.{◌≡◌, ◌≢◌, ◌+◌, ◌≤◌, �
 ghost use Rattle.arena.specs.MemberIndex.{member_index};
 ghost use Rattle.help.specs.Help.Steps.{help_left};
 ghost use Rattle.help.specs.Help.Known.{settled_load};
-ghost use Rattle.forest.specs.Hands.{IsAt, hand_calls, slots};
+ghost use Rattle.forest.specs.Hands.{IsAt, hand_calls, hand_slots};
 ghost use Rattle.forest.specs.InnerSteps.{MakesInside, WaitsInside};
 ghost use Rattle.forest.specs.Leads.{Leads, steps_made};
 ghost use Rattle.forest.specs.StraightHelp.{Helper, HelperMarks, IsBehindFreeze, IsBehindFreezes, IsBehindHelp, LoadsMember, LoadsPlan, SetsFlag, inner_help};
@@ -31,7 +31,7 @@ fn act_on<S: Shape, M: CallMachine<S>, T: Shape>(
     access: Access,
 ) -> u64
     requires table { IsAt hand seat.old }
-    requires start { start ≡ word_begins (slots hand) word }
+    requires start { start ≡ word_begins (hand_slots hand) word }
     requires waits { WaitsInside (hand_calls S.Shape M.Machine hand) (inner_help T.allows)
         seat.old record { kind = kind; word = word; access = access } }
     ensures { MakesInside (hand_calls S.Shape M.Machine hand.entry) (inner_help T.allows)
@@ -71,7 +71,7 @@ fn read<S: Shape, M: CallMachine<S>, T: Shape>(
     part: ScxWord,
 ) -> u64
     requires table { IsAt hand seat.old }
-    requires start { start ≡ scx_begins (slots hand) scx }
+    requires start { start ≡ scx_begins (hand_slots hand) scx }
     requires waits { WaitsInside (hand_calls S.Shape M.Machine hand) (inner_help T.allows)
         seat.old (settled_load scx.0 part) }
     ensures { MakesInside (hand_calls S.Shape M.Machine hand.entry) (inner_help T.allows)
@@ -102,7 +102,7 @@ fn freeze<S: Shape, M: CallMachine<S>, T: Shape>(
     j: MemberIndex,
 ) -> bool
     requires table { IsAt hand seat.old }
-    requires start { start ≡ scx_begins (slots hand) run.old.scx }
+    requires start { start ≡ scx_begins (hand_slots hand) run.old.scx }
     requires waits { (k : Helper T.allows (hand_calls S.Shape M.Machine hand))
         × LoadsMember k seat.old.me.0.passes run.old j }
     ensures leads { Leads seat.old seat.new 3
@@ -140,7 +140,7 @@ fn freeze_all<S: Shape, M: CallMachine<S>, T: Shape>(
     run: &mut HelpRun,
 ) -> bool
     requires table { IsAt hand seat.old }
-    requires start { start ≡ scx_begins (slots hand) run.old.scx }
+    requires start { start ≡ scx_begins (hand_slots hand) run.old.scx }
     requires waits { (k : Helper T.allows (hand_calls S.Shape M.Machine hand))
         × LoadsMember k seat.old.me.0.passes run.old MemberIndex.First }
     ensures leads { Leads seat.old seat.new 12
@@ -229,7 +229,7 @@ pub(crate) fn begin<S: Shape, M: CallMachine<S>, T: Shape, E>(
     run: &mut HelpRun,
 ) -> bool
     requires table { IsAt hand seat.old }
-    requires start { start ≡ scx_begins (slots hand) run.old.scx }
+    requires start { start ≡ scx_begins (hand_slots hand) run.old.scx }
     requires waits { (k : Helper T.allows (hand_calls S.Shape M.Machine hand))
         × LoadsPlan k seat.old.me.0.passes run.old }
     ensures leads { Leads seat.old seat.new 13
@@ -253,7 +253,7 @@ pub(crate) fn commit<S: Shape, M: CallMachine<S>, T: Shape>(
     run: &HelpRun,
 )
     requires table { IsAt hand seat.old }
-    requires start { start ≡ scx_begins (slots hand) run.now.scx }
+    requires start { start ≡ scx_begins (hand_slots hand) run.now.scx }
     requires waits { (k : Helper T.allows (hand_calls S.Shape M.Machine hand))
         × SetsFlag k seat.old.me.0.passes run.now }
     ensures { Leads seat.old seat.new 9
@@ -286,7 +286,7 @@ pub(crate) fn call<S: Shape, M: CallMachine<S>, T: Shape>(
     run: &mut HelpRun,
 ) -> bool
     requires table { IsAt hand seat.old }
-    requires start { start ≡ scx_begins (slots hand) run.old.scx }
+    requires start { start ≡ scx_begins (hand_slots hand) run.old.scx }
     requires waits { (k : Helper T.allows (hand_calls S.Shape M.Machine hand))
         × LoadsPlan k seat.old.me.0.passes run.old }
     ensures leads { Leads seat.old seat.new 22

@@ -2,7 +2,7 @@
 ghost use Rattle.std.specs.Prelude.{◌≡◌, ◌≤◌, ◌+◌, suc, true, false, IfOk, IfErr, MatchResult};
 ghost use Rattle.arena.specs.Heads.{head_of};
 ghost use Rattle.forest.specs.Leads.{steps_made};
-ghost use Rattle.forest.specs.Hands.{IsAt, hand_calls, names, slots};
+ghost use Rattle.forest.specs.Hands.{IsAt, hand_calls, hand_slots, names};
 ghost use Rattle.forest.specs.Seats.{StaysAtTable};
 ghost use Rattle.forest.specs.Traces.{shared_nodes};
 ghost use Rattle.forest.specs.StraightWalk.{AsksHead, HasWalked, MayWalkFrom, WalkEndsFrom, WalkFinds, WalkGoesDown, Walker, WalkerIsTold, WalksNearer};
@@ -38,7 +38,7 @@ fn end_at<S: Shape, M: CallMachine<S>>(
     slot: Slot,
 ) -> Found
     requires table { IsAt hand seat.old }
-    requires start { start ≡ node_begins (slots hand) trail.node }
+    requires start { start ≡ node_begins (hand_slots hand) trail.node }
     requires slot { slot ≡ end_slot side more }
     requires told { HasWalked S.Shape M.Machine hand seat.old
         (way_at way (Goal.End side) trail (WalkAt.More head)) more }
@@ -67,7 +67,7 @@ fn end_at_side<S: Shape, M: CallMachine<S>>(
     more: u64,
 ) -> Found
     requires table { IsAt hand seat.old }
-    requires start { start ≡ node_begins (slots hand) trail.node }
+    requires start { start ≡ node_begins (hand_slots hand) trail.node }
     requires told { HasWalked S.Shape M.Machine hand seat.old
         (way_at way (Goal.End side) trail (WalkAt.More head)) more }
     ensures table { StaysAtTable seat.old seat.new }
@@ -97,7 +97,7 @@ fn end_last<S: Shape, M: CallMachine<S>>(
     word: u64,
 ) -> Found
     requires table { IsAt hand seat.old }
-    requires stands { AsksHead (slots hand) trail at start }
+    requires stands { AsksHead (hand_slots hand) trail at start }
     requires leaf { (head_of word).leaf ≡ true }
     requires told { HasWalked S.Shape M.Machine hand seat.old (way_at way (Goal.End side) trail at)
         word }
@@ -135,7 +135,7 @@ fn pass_last<S: Shape, M: CallMachine<S>>(
     word: u64,
 ) -> Result<Side, Found>
     requires table { IsAt hand seat.old }
-    requires stands { AsksHead (slots hand) trail at start }
+    requires stands { AsksHead (hand_slots hand) trail at start }
     requires left { (head_of word).leaf ≡ false
         → open_side (Goal.End side) (head_of word) ≡ Side.Left }
     requires told { HasWalked S.Shape M.Machine hand seat.old (way_at way (Goal.End side) trail at)
@@ -177,11 +177,11 @@ fn descend_right<S: Shape, M: CallMachine<S>>(
     head: u64,
 ) -> (Reached, u64)
     requires table { IsAt hand seat.old }
-    requires stands { AsksHead (slots hand) first.trail first.at first.start }
+    requires stands { AsksHead (hand_slots hand) first.trail first.at first.start }
     requires told { (w : Walker (hand_calls S.Shape M.Machine hand))
         × WalkerIsTold w seat.old.me.0.passes
         (way_at way (Goal.End Side.Right) first.trail first.at) first.turns head }
-    ensures stands { AsksHead (slots hand.entry) result.0.trail result.0.at result.0.start }
+    ensures stands { AsksHead (hand_slots hand.entry) result.0.trail result.0.at result.0.start }
     ensures left { (head_of result.1).leaf ≡ false
         → open_side (Goal.End Side.Right) (head_of result.1) ≡ Side.Left }
     ensures table { StaysAtTable seat.old seat.new }
@@ -214,7 +214,7 @@ pub(crate) fn to_last_from<S: Shape, M: CallMachine<S>>(
     first: Reached,
 ) -> (Found, LastTurns)
     requires table { IsAt hand seat.old }
-    requires stands { AsksHead (slots hand) first.trail first.at first.start }
+    requires stands { AsksHead (hand_slots hand) first.trail first.at first.start }
     requires waits { MayWalkFrom S.Shape M.Machine hand seat.old way (Goal.End Side.Right) first }
     ensures table { StaysAtTable seat.old seat.new }
     ensures steps { steps_made seat.new ≤ steps_made seat.old

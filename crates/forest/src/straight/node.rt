@@ -3,7 +3,7 @@ ghost use Rattle.std.specs.Prelude.{◌≡◌, ◌<◌, ◌+◌, suc};
 ghost use Rattle.arena.specs.Heads.{head_of};
 ghost use Rattle.arena.specs.Layout.{all_nodes};
 ghost use Rattle.forest.specs.Leads.{steps_made};
-ghost use Rattle.forest.specs.Hands.{IsAt, hand_calls, names, slots};
+ghost use Rattle.forest.specs.Hands.{IsAt, hand_calls, hand_slots, names};
 ghost use Rattle.forest.specs.Seats.{StaysAtTable};
 ghost use Rattle.forest.specs.Traces.{shared_nodes};
 ghost use Rattle.forest.specs.StraightWalk.{AsksBelow, HasWalked, WalkFinds, Walker, WalkerGoesDown, WalkerIsTold, WalkerWaits};
@@ -72,7 +72,7 @@ pub(crate) fn read<S: Shape, M: CallMachine<S>>(
     part: NodeWord,
 ) -> u64
     requires table { IsAt hand seat.old }
-    requires start { start ≡ node_begins (slots hand) node }
+    requires start { start ≡ node_begins (hand_slots hand) node }
     requires waits { (w : Walker (hand_calls S.Shape M.Machine hand)) × (m : WalkRun)
         × (turn : LastTurns)
         × WalkerWaits w seat.old.me.0.passes m turn (load kind (Word.Node node part)) }
@@ -94,7 +94,7 @@ pub(crate) fn read<S: Shape, M: CallMachine<S>>(
 #[inline(always)]
 pub(crate) fn start_for<S: Shape>(hand: Hand<S>, goal: Goal, node: NodeNo) -> usize
     requires { node.0 < all_nodes (names hand) }
-    ensures { result ≡ node_begins (slots hand.entry) node }
+    ensures { result ≡ node_begins (hand_slots hand.entry) node }
 {
     let start = hand.node_start(node);
     match goal {
@@ -128,7 +128,7 @@ pub(crate) fn end_with<S: Shape, M: CallMachine<S>>(
     key: u64,
 ) -> Found
     requires table { IsAt hand seat.old }
-    requires start { start ≡ node_begins (slots hand) trail.node }
+    requires start { start ≡ node_begins (hand_slots hand) trail.node }
     requires asked { asked_key goal key ≡ key }
     requires told { HasWalked S.Shape M.Machine hand seat.old
         (way_at way goal trail (WalkAt.Pair head more slot)) key }
@@ -164,13 +164,13 @@ pub(crate) fn descend<S: Shape, M: CallMachine<S>>(
     side: Side,
 ) -> Reached
     requires table { IsAt hand seat.old }
-    requires start { place.start ≡ node_begins (slots hand) place.trail.node }
+    requires start { place.start ≡ node_begins (hand_slots hand) place.trail.node }
     requires waits { (w : Walker (hand_calls S.Shape M.Machine hand))
         × WalkerGoesDown w seat.old.me.0.passes way goal place.trail (head_of word).level side
         place.turns }
     ensures table { StaysAtTable seat.old seat.new }
     ensures one { steps_made seat.new ≡ suc (steps_made seat.old) }
-    ensures below { AsksBelow (slots hand.entry) way (head_of word).level result }
+    ensures below { AsksBelow (hand_slots hand.entry) way (head_of word).level result }
     ensures down { (w : Walker (hand_calls S.Shape M.Machine hand.entry))
         → WalkerGoesDown w seat.old.me.0.passes way goal place.trail (head_of word).level side
         place.turns

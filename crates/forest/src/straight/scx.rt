@@ -1,7 +1,7 @@
 //! SCX with an SCX-record of the share, of whatever machine makes one: its steps inline.
 ghost use Rattle.std.specs.Prelude.{◌≡◌, ◌≤◌, ◌<◌, ◌+◌, ℕ, suc, true, false, IfSome, IfNone};
 ghost use Rattle.arena.specs.MemberIndex.{member_index};
-ghost use Rattle.forest.specs.Hands.{IsAt, hand_calls, slots};
+ghost use Rattle.forest.specs.Hands.{IsAt, hand_calls, hand_slots};
 ghost use Rattle.forest.specs.InnerSteps.{MakesInside, WaitsInside};
 ghost use Rattle.forest.specs.Leads.{Leads, steps_made};
 ghost use Rattle.forest.specs.Seats.{StaysAtTable};
@@ -45,7 +45,7 @@ fn fill<S: Shape, M: CallMachine<S>, T: Shape>(
     value: u64,
 ) -> u64
     requires table { IsAt hand seat.old }
-    requires start { start ≡ scx_begins (slots hand) scx }
+    requires start { start ≡ scx_begins (hand_slots hand) scx }
     requires waits { WaitsInside (hand_calls S.Shape M.Machine hand) (inner_scx T.allows)
         seat.old (scx_fill scx part value) }
     ensures { MakesInside (hand_calls S.Shape M.Machine hand.entry) (inner_scx T.allows)
@@ -67,7 +67,7 @@ fn fill_member<S: Shape, M: CallMachine<S>, T: Shape, L: SnapList>(
     j: MemberIndex,
 ) -> Option<MemberIndex>
     requires table { IsAt hand seat.old }
-    requires start { start ≡ scx_begins (slots hand) change.scx }
+    requires start { start ≡ scx_begins (hand_slots hand) change.scx }
     requires waits { (k : Changer T.allows (hand_calls S.Shape M.Machine hand))
         × FillsMember k seat.old.me.0.passes (L.list snaps.now) change j }
     ensures table { StaysAtTable seat.old seat.new }
@@ -98,7 +98,7 @@ fn fill_members<S: Shape, M: CallMachine<S>, T: Shape, L: SnapList>(
     start: usize,
 )
     requires table { IsAt hand seat.old }
-    requires start { start ≡ scx_begins (slots hand) change.scx }
+    requires start { start ≡ scx_begins (hand_slots hand) change.scx }
     requires waits { (k : Changer T.allows (hand_calls S.Shape M.Machine hand))
         × FillsMember k seat.old.me.0.passes (L.list snaps.now) change MemberIndex.First }
     ensures { Leads seat.old seat.new 4
@@ -130,7 +130,7 @@ fn fill_seen<S: Shape, M: CallMachine<S>, T: Shape, L: SnapList>(
     j: MemberIndex,
 ) -> Option<MemberIndex>
     requires table { IsAt hand seat.old }
-    requires start { start ≡ scx_begins (slots hand) change.scx }
+    requires start { start ≡ scx_begins (hand_slots hand) change.scx }
     requires waits { (k : Changer T.allows (hand_calls S.Shape M.Machine hand))
         × FillsSeen k seat.old.me.0.passes (L.list snaps.now) change j }
     ensures table { StaysAtTable seat.old seat.new }
@@ -161,7 +161,7 @@ fn fill_infos<S: Shape, M: CallMachine<S>, T: Shape, L: SnapList>(
     start: usize,
 )
     requires table { IsAt hand seat.old }
-    requires start { start ≡ scx_begins (slots hand) change.scx }
+    requires start { start ≡ scx_begins (hand_slots hand) change.scx }
     requires waits { (k : Changer T.allows (hand_calls S.Shape M.Machine hand))
         × FillsSeen k seat.old.me.0.passes (L.list snaps.now) change MemberIndex.First }
     ensures { Leads seat.old seat.new 4
@@ -192,7 +192,7 @@ pub(crate) fn fill_all<S: Shape, M: CallMachine<S>, T: Shape, L: SnapList>(
     start: usize,
 ) -> u64
     requires table { IsAt hand seat.old }
-    requires start { start ≡ scx_begins (slots hand) change.scx }
+    requires start { start ≡ scx_begins (hand_slots hand) change.scx }
     requires waits { (k : Changer T.allows (hand_calls S.Shape M.Machine hand))
         × FillsPlan k seat.old.me.0.passes (L.list snaps.now) change }
     ensures { Leads seat.old seat.new 12

@@ -4,7 +4,7 @@ ghost use Rattle.arena.specs.Machines.{Call};
 ghost use Rattle.forest.specs.Leads.{steps_made};
 ghost use Rattle.forest.specs.declared.view.SeatedPass.{SeatedPass};
 ghost use Rattle.forest.specs.Opened.{IsStepBehind};
-ghost use Rattle.forest.specs.Hands.{IsAt, IsCallOf, slots};
+ghost use Rattle.forest.specs.Hands.{IsAt, IsCallOf, hand_slots};
 ghost use Rattle.forest.specs.Seats.{StaysAtTable};
 ghost use Rattle.forest.specs.Traces.{Waits, Told, known_of};
 ghost use Rattle.forest.specs.Slotted.{word_begins};
@@ -27,7 +27,7 @@ pub(crate) fn step_from<S: Shape, M: CallMachine<S>>(
     start: usize,
 ) -> u64
     requires table { IsAt hand seat.old }
-    requires start { start ≡ word_begins (slots hand) step.word }
+    requires start { start ≡ word_begins (hand_slots hand) step.word }
     requires waits { (c : Call) × (first : M) × (m : M) × IsCallOf hand c
         × Waits S.allows M.waits M.same c seat.old.me.0.passes first m step }
     ensures table { StaysAtTable seat.old seat.new }

@@ -2,7 +2,7 @@
 ghost use Rattle.std.specs.Prelude.{◌≡◌, ◌≢◌, ◌<◌, ◌≤◌, ◌+◌, ◌*◌, ◌^◌, ℕ, suc, true, false, if◌then◌else◌, nat_lt, IfOk, IfErr, MatchResult};
 ghost use Rattle.arena.specs.Heads.{head_of};
 ghost use Rattle.forest.specs.Leads.{steps_made};
-ghost use Rattle.forest.specs.Hands.{IsAt, hand_calls, names, slots};
+ghost use Rattle.forest.specs.Hands.{IsAt, hand_calls, hand_slots, names};
 ghost use Rattle.forest.specs.Seats.{StaysAtTable};
 ghost use Rattle.forest.specs.Traces.{shared_nodes};
 ghost use Rattle.forest.specs.StraightWalk.{AsksHead, HasWalked, IsAskedFork, MayWalk, MayWalkFrom, WalkEnds, WalkEndsFrom, WalkFinds, WalkGoesDown, Walker, WalkerFinds, WalkerHasHead, WalksNearer, with_turn_if};
@@ -95,7 +95,7 @@ fn end_from<S: Shape, M: CallMachine<S>>(
     first: Slot,
 ) -> Found
     requires table { IsAt hand seat.old }
-    requires start { start ≡ node_begins (slots hand) trail.node }
+    requires start { start ≡ node_begins (hand_slots hand) trail.node }
     requires first { first ≡ goal_slot goal more }
     requires told { HasWalked S.Shape M.Machine hand seat.old
         (way_at way goal trail (WalkAt.More head)) more }
@@ -141,7 +141,7 @@ fn end<S: Shape, M: CallMachine<S>>(
 ) -> Found
     requires first { (more : ℕ) → goal_slot goal more ≡ Slot.First }
     requires table { IsAt hand seat.old }
-    requires stands { AsksHead (slots hand) trail at start }
+    requires stands { AsksHead (hand_slots hand) trail at start }
     requires leaf { (head_of word).leaf ≡ true }
     requires told { HasWalked S.Shape M.Machine hand seat.old (way_at way goal trail at) word }
     ensures table { StaysAtTable seat.old seat.new }
@@ -258,7 +258,7 @@ fn pass_by_key<S: Shape, M: CallMachine<S>>(
     word: u64,
 ) -> Result<(Side, bool), Found>
     requires table { IsAt hand seat.old }
-    requires stands { AsksHead (slots hand) trail at start }
+    requires stands { AsksHead (hand_slots hand) trail at start }
     requires asks { IsAskedFork goal (head_of word) }
     requires told { HasWalked S.Shape M.Machine hand seat.old (way_at way goal trail at) word }
     ensures table { StaysAtTable seat.old seat.new }
@@ -298,13 +298,13 @@ fn step_by_key<S: Shape, M: CallMachine<S>>(
     word: u64,
 ) -> Result<(Reached, u64), Found>
     requires table { IsAt hand seat.old }
-    requires stands { AsksHead (slots hand) place.trail place.at place.start }
+    requires stands { AsksHead (hand_slots hand) place.trail place.at place.start }
     requires asks { IsAskedFork goal (head_of word) }
     requires told { (w : Walker (hand_calls S.Shape M.Machine hand))
         × WalkerHasHead w seat.old.me.0.passes way goal place word }
     ensures table { StaysAtTable seat.old seat.new }
     ensures stands { IfOk result (λ to.
-        AsksHead (slots hand.entry) to.0.trail to.0.at to.0.start) }
+        AsksHead (hand_slots hand.entry) to.0.trail to.0.at to.0.start) }
     ensures nearer { IfOk result (λ to.
         3 + walk_left to.0.at (room way (shared_nodes (names hand.entry)))
         ≤ walk_left place.at (room way (shared_nodes (names hand.entry)))) }
@@ -342,12 +342,12 @@ fn descend_by_keys<S: Shape, M: CallMachine<S>>(
     head: u64,
 ) -> Result<(Reached, u64), (Found, LastTurns)>
     requires table { IsAt hand seat.old }
-    requires stands { AsksHead (slots hand) first.trail first.at first.start }
+    requires stands { AsksHead (hand_slots hand) first.trail first.at first.start }
     requires told { (w : Walker (hand_calls S.Shape M.Machine hand))
         × WalkerHasHead w seat.old.me.0.passes way goal first head }
     ensures table { StaysAtTable seat.old seat.new }
     ensures stands { IfOk result (λ to.
-        AsksHead (slots hand.entry) to.0.trail to.0.at to.0.start) }
+        AsksHead (hand_slots hand.entry) to.0.trail to.0.at to.0.start) }
     ensures open { IfOk result (λ to.
         (head_of to.1).leaf ≡ false → asks_key goal (head_of to.1) ≡ false) }
     ensures nearer { IfOk result (λ to. WalksNearer seat.old seat.new
@@ -390,7 +390,7 @@ fn pass_open<S: Shape, M: CallMachine<S>>(
 ) -> Result<(Side, bool), Found>
     requires first { (more : ℕ) → goal_slot goal more ≡ Slot.First }
     requires table { IsAt hand seat.old }
-    requires stands { AsksHead (slots hand) trail at start }
+    requires stands { AsksHead (hand_slots hand) trail at start }
     requires open { (head_of word).leaf ≡ false → asks_key goal (head_of word) ≡ false }
     requires told { HasWalked S.Shape M.Machine hand seat.old (way_at way goal trail at) word }
     ensures table { StaysAtTable seat.old seat.new }
@@ -419,7 +419,7 @@ fn to_goal_from<S: Shape, M: CallMachine<S>>(
 ) -> (Found, LastTurns)
     requires slot { (more : ℕ) → goal_slot goal more ≡ Slot.First }
     requires table { IsAt hand seat.old }
-    requires stands { AsksHead (slots hand) first.trail first.at first.start }
+    requires stands { AsksHead (hand_slots hand) first.trail first.at first.start }
     requires waits { MayWalkFrom S.Shape M.Machine hand seat.old way goal first }
     ensures table { StaysAtTable seat.old seat.new }
     ensures steps { steps_made seat.new ≤ steps_made seat.old
@@ -488,7 +488,7 @@ pub(crate) fn call_from<S: Shape, M: CallMachine<S>, E: Edit>(
     first: Reached,
 ) -> (Found, LastTurns)
     requires table { IsAt hand seat.old }
-    requires stands { AsksHead (slots hand) first.trail first.at first.start }
+    requires stands { AsksHead (hand_slots hand) first.trail first.at first.start }
     requires waits { MayWalkFrom S.Shape M.Machine hand seat.old way goal first }
     ensures table { StaysAtTable seat.old seat.new }
     ensures steps { steps_made seat.new ≤ steps_made seat.old

@@ -2,7 +2,7 @@ use Rattle.std.proofs.Common.{◌≡◌, ◌+◌, ◌≤◌}
 use Rattle.forest.specs.StraightWalk.{Walker, WalkerIsTold}
 use Rattle.forest.specs.Traces.{seat_steps, shared_nodes}
 use Rattle.forest.specs.CallKinds.{calls}
-use Rattle.forest.specs.Hands.{names, slots}
+use Rattle.forest.specs.Hands.{hand_slots, names}
 use Rattle.forest.specs.Slotted.{node_begins}
 use Rattle.histories.specs.Common.{Right}
 use Rattle.template.specs.Common.{walk_left, End}
@@ -14,7 +14,7 @@ abbrev pub invariant-loop-way : goal.invariant-loop-way
 invariant-loop-way g l = record {
   here : (l.seat.table_id ≡ l.fn.seat.table_id) × (l.seat.me.1 ≡ l.fn.seat.me.1);
   loads : LoadsHead l.place.at;
-  start : l.place.start ≡ node_begins (slots l.fn.hand) l.place.trail.node;
+  start : l.place.start ≡ node_begins (hand_slots l.fn.hand) l.place.trail.node;
   nearer : walk_left l.place.at (room l.way (shared_nodes (names l.fn.hand))) ≤ walk_left l.fn.first.at (room l.way (shared_nodes (names l.fn.hand)));
   steps : seat_steps l.seat.me.0.passes + walk_left l.place.at (room l.way (shared_nodes (names l.fn.hand))) ≤ seat_steps l.fn.seat.me.0.passes + walk_left l.fn.first.at (room l.way (shared_nodes (names l.fn.hand)));
   told : (w : Walker (calls g.S.Shape g.M.Machine (names l.fn.hand) l.fn.hand.number))

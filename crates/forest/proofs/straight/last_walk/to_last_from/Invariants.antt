@@ -5,7 +5,7 @@ use Rattle.histories.specs.Common.{LoadSettled, Settled, Head, node}
 use Rattle.forest.specs.StraightWalk.{Walker, WalkerWaits, WalkerIsAt}
 use Rattle.forest.specs.Traces.{seat_steps, shared_nodes}
 use Rattle.forest.specs.CallKinds.{calls}
-use Rattle.forest.specs.Hands.{names, slots}
+use Rattle.forest.specs.Hands.{hand_slots, names}
 use Rattle.forest.specs.Slotted.{node_begins}
 use Rattle.template.specs.Common.{load, walk_left}
 use Rattle.template.specs.Walk.Places.{way_at, LoadsHead}
@@ -16,7 +16,7 @@ abbrev pub invariant-loop-side : goal.invariant-loop-side
 invariant-loop-side g l = record {
   here : (l.seat.table_id ≡ l.fn.seat.table_id) × (l.seat.me.1 ≡ l.fn.seat.me.1);
   loads : LoadsHead l.place.at;
-  start : l.place.start ≡ node_begins (slots l.fn.hand) l.place.trail.node;
+  start : l.place.start ≡ node_begins (hand_slots l.fn.hand) l.place.trail.node;
   steps : seat_steps l.seat.me.0.passes + suc (walk_left l.place.at (room l.way (shared_nodes (names l.fn.hand)))) ≤ seat_steps l.fn.seat.me.0.passes + suc (walk_left l.fn.first.at (room l.way (shared_nodes (names l.fn.hand))));
   waits : (w : Walker (calls g.S.Shape g.M.Machine (names l.fn.hand) l.fn.hand.number))
       → WalkerIsAt w l.fn.seat.me.0.passes l.way (End Right) l.fn.first
