@@ -38,3 +38,4 @@ pub mod LastingSlots
 pub mod LastingNames
 pub mod LastingRule
 pub mod LastingOpening
+pub mod Ruled

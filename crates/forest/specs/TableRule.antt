@@ -1,14 +1,16 @@
 -- The rule of the table: what its words and the views of all seats have to do with one lawful run.
-use Rattle.std.specs.Prelude.{◌≡◌, ◌≢◌, ◌<◌, ℕ, zero, suc, false, List, [], ◌∷◌, ◌++◌, length, slice_index}
+use Rattle.std.specs.Prelude.{◌≡◌, ◌≢◌, ◌<◌, ℕ, zero, suc, false, List, [], ◌∷◌, ◌++◌, length, None, slice_index}
 use mathlib.Core.Option.{some}
 use lib.ListN.{get_elem?}
 use Rattle.atomic_table.specs.Seated.{TableId}
 use Rattle.atomic_table.specs.Table.{State}
 use Rattle.histories.specs.Common.{Layout, Settled, Head, Word, LoadSettled, Load, Row, place, table_size, IsWord, node, word_after, History, Opened, ◌⊳◌, value, IsRun, IsTold}
 use Rattle.planting.specs.Plantings.{PlantingView, opening_for}
+use Rattle.slots.specs.Lasting.{Lasting, slot_word, table_place}
 use Rattle.forest.specs.declared.rule.CallStep.{CallStep}
 use Rattle.forest.specs.declared.memory.PassMemory.{PassMemory}
 use Rattle.forest.specs.declared.rule.Plot.{Plot}
+use Rattle.forest.specs.declared.rule.Site.{Site}
 use Rattle.forest.specs.declared.view.SeatedPass.{SeatedPass}
 use Rattle.forest.specs.declared.view.SeatView.{SeatView}
 
@@ -143,16 +145,16 @@ first_of_seat v = seat_view (first_of v.passes)
 abbrev pub joined_seat : SeatView → SeatView → SeatView
 joined_seat v w = seat_view (v.passes ++ w.passes)
 
--- the table has as many words as this layout
-abbrev pub IsTableOf : TableId → Plot → Layout → Type 0
-IsTableOf id key lay = (id.words ≡ table_size lay) × (key.layout ≡ lay)
+-- the table has as many words as this layout, and each record a place of its own
+abbrev pub IsTableOf : TableId → Site → Layout → Type 0
+IsTableOf id site lay = (id.words ≡ table_size lay) × (site.layout ≡ lay) × (site.turns ≡ None)
 
--- a word of this layout is at this place, and no other
-pub record IsPlaceOf (lay : Layout) (word : Word) (at : ℕ) : Type 0 where
-  pub is_word : IsWord lay word
-  pub is_place : at ≡ place lay word
-  pub inside : at < table_size lay
-  pub apart : (other : Word) → IsWord lay other → place lay other ≡ at → other ≡ word
+-- a word of a record that has a name is at this place, where no other word of its slot is
+pub record IsPlaceOf (t : Lasting) (word : Word) (at : ℕ) : Type 0 where
+  pub is_word : IsWord t.lay word
+  pub is_place : at ≡ table_place t word
+  pub inside : at < table_size t.table
+  pub apart : (other : Word) → IsWord t.table other → place t.table other ≡ at → other ≡ slot_word t word
 
 -- a seat of one pass, of this layout
 pub record IsAlone (lay : Layout) (ps : List SeatedPass) : Type 0 where

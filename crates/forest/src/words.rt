@@ -11,9 +11,11 @@ ghost use Rattle.planting.specs.Plantings.{opening_for};
 ghost use Rattle.forest.specs.declared.view.SeatedPass.{SeatedPass};
 ghost use Rattle.forest.specs.CallSteps.{IsOfMapCall};
 ghost use Rattle.forest.specs.Seats.{IsSeatAt, StaysAtTable};
-ghost use Rattle.forest.specs.TableRule.{IsPlaceOf, IsTableOf, TableIsLawful, MayStep, Made, Looked, look, new_passes, rest_of, first_of};
+ghost use Rattle.forest.specs.Ruled.{IsRuled, first_of_table};
+ghost use Rattle.forest.specs.Slotted.{names_of_table, slots_of_table};
+ghost use Rattle.forest.specs.TableRule.{IsPlaceOf, IsTableOf, MayStep, Made, Looked, look, rest_of, first_of};
 
-use crate::rule::{Both, CallStep, Deal, Lawful, Looks, Makes, Plot, Says};
+use crate::rule::{Both, CallStep, Deal, Lawful, Looks, Makes, Says, Site};
 use crate::view::SeatView;
 use arena::{Access, Layout, NoMemory, NodeNo, NodeWord, SettledPart, Shape, Word};
 use atomic_table::{Closed, Seat, Table};
@@ -23,7 +25,9 @@ use std::marker::Brand;
 /// A table of words under the rule that some lawful run has left them.
 #[derive(Drop)]
 pub(crate) struct Words<S: Shape> {
-    table: Table<u8, SeatView, Plot, Lawful<S>, Global>,
+    table: Table<u8, SeatView, Site, Lawful<S>, Global>,
+    ghost lasting: { IsLasting (slots_of_table table.shared.key) },
+    ghost maps: { HoldsMaps S.mode S.allows table.shared.key },
 }
 
 impl<S: Shape> Words<S> {
