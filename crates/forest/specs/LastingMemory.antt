@@ -1,6 +1,6 @@
 -- What passes of a table that lasts remember from one call to the next, and when it is so.
 use Rattle.std.specs.Prelude.{◌≡◌, ◌<◌, ◌⊎◌, ℕ, true, false, List, [], ◌∷◌, Option, Some, None, slice_index}
-use Rattle.histories.specs.Common.{Layout, Row, Word, History, Extends, IsWord, IsTakenNode, place, log, is_final}
+use Rattle.histories.specs.Common.{Layout, Fill, Row, Step, Word, History, Extends, IsWord, IsTakenNode, place, log, is_final}
 use Rattle.planting.specs.Plantings.{PlantingView}
 use Rattle.touching.specs.Left.{HasLeft}
 use Rattle.resting.specs.Dead.{IsDead, IsMarkedRecord, IsUnborn, WasDoneWith}
@@ -91,6 +91,10 @@ pub record IsZeroWord (t : Lasting) (o : ℕ) (now : Present) (w : Word) : Type 
 abbrev pub IsDealt : PassMemory → Record → Type 0
 IsDealt m (the_node n) = n < m.nodes_to
 IsDealt m (the_scx s) = s < m.scx_to
+
+-- what the step fills is dealt
+abbrev pub FillsDealt : PassMemory → Step → Type 0
+FillsDealt m s = s.kind ≡ Fill → IsDealt m (record_of s.word)
 
 -- what the pass remembers of names, of slots and of others is so
 pub record RemembersNames (t : Lasting) (planting : PlantingView) (now : Present) (o : ℕ) (m : PassMemory) : Type 0 where

@@ -9,7 +9,7 @@ ghost use Rattle.arena.specs.Layout.{IsMap, table_size};
 ghost use Rattle.arena.specs.Machines.{IsRun};
 ghost use Rattle.planting.specs.Plantings.{opening_for};
 ghost use Rattle.forest.specs.declared.view.SeatedPass.{SeatedPass};
-ghost use Rattle.forest.specs.CallSteps.{IsOfMapCall};
+ghost use Rattle.forest.specs.LastingRule.{MayStepOn};
 ghost use Rattle.forest.specs.Seats.{IsSeatAt, StaysAtTable};
 ghost use Rattle.forest.specs.TableRule.{IsPlaceOf, IsTableOf, TableIsLawful, MayStep, Made, Looked, look, new_passes, rest_of, first_of};
 
@@ -49,7 +49,7 @@ impl<S: Shape> Words<S> {
     }
 
     /// Makes the step of a call that is said, which is at this place, and answers what a machine
-    /// gets of it. The rule of this table does not ask of which call it is.
+    /// gets of it. In a map the step meets what a table asks that lasts.
     #[inline(always)]
     pub(crate) fn make<J: Says>(
         &self,
@@ -63,8 +63,8 @@ impl<S: Shape> Words<S> {
         requires place { IsPlaceOf self.now.table.shared.key.layout said.now.step.word at }
         requires may { (p : SeatedPass) × (seat.old.me.0.passes ≡ p ∷ [])
             × MayStep S.allows said.now p }
-        requires of_call { IsMap S.mode → (p : SeatedPass) × (seat.old.me.0.passes ≡ p ∷ [])
-            × IsOfMapCall S.allows said.now p }
+        requires in_map { IsMap S.mode → (p : SeatedPass) × (seat.old.me.0.passes ≡ p ∷ [])
+            × MayStepOn S.allows said.now p }
         ensures table { StaysAtTable seat.old seat.new }
         ensures made { Made S.allows said.now seat.old.me.0.passes result seat.new.me.0.passes }
     {
