@@ -19,6 +19,7 @@ pub mod AllBack
 pub mod Crowds
 mod Places
 mod Slotted
+pub mod Ruled
 mod Inside
 mod Hosts
 mod StraightLlx

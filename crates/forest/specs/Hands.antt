@@ -4,6 +4,7 @@ use Rattle.atomic_table.specs.declared.shared.Seat.{Seat}
 use Rattle.histories.specs.Common.{Ghosts as Machine, Call}
 use Rattle.arena.specs.declared.machine.Shape.{Ghosts as Shape}
 use Rattle.forest.specs.declared.straight.hand.Hand.{Hand}
+use Rattle.forest.specs.declared.memory.PassMemory.{PassMemory}
 use Rattle.forest.specs.declared.view.SeatView.{SeatView}
 use Rattle.arena.specs.declared.layout.Layout.{Layout}
 use Rattle.slots.specs.Lasting.{Lasting}
@@ -26,5 +27,5 @@ abbrev pub IsCallOf : {S : Type 0} → Hand S → Call → Type 0
 IsCallOf hand call = (call.layout ≡ names hand) × (call.number ≡ hand.number)
 
 -- the calls of a machine under a shape that it is of
-abbrev pub hand_calls : {S T M A : Type 0} → Shape T → Machine M T A → Hand S → Calls M
-hand_calls s m hand = calls s m (names hand) hand.number
+abbrev pub hand_calls : {S T M A : Type 0} → Shape T → Machine M T A → (M → PassMemory → Type 0) → Hand S → Calls M
+hand_calls s m left hand = calls s m left (names hand) hand.number

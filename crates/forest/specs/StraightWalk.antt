@@ -19,6 +19,7 @@ use Rattle.template.specs.declared.walk.Way.{Way}
 use Rattle.order.specs.declared.last_turns.LastTurns.{LastTurns}
 use Rattle.forest.specs.declared.straight.hand.Hand.{Hand}
 use Rattle.forest.specs.declared.straight.node.Reached.{Reached}
+use Rattle.forest.specs.declared.memory.PassMemory.{PassMemory}
 use Rattle.forest.specs.declared.view.SeatView.{SeatView}
 use Rattle.forest.specs.declared.view.SeatedPass.{SeatedPass}
 use Rattle.forest.specs.CallKinds.{Calls}
@@ -122,35 +123,35 @@ module _ {M : Type 0} {o : Calls M} (w : Walker o) (ps : List SeatedPass) where
     pub finds : (d : Call) (h : History) → WalkIsTold last d h told → FoundBy way goal d h f
     pub so : WalkerIsTold last turn told
 
-module _ {S T M A : Type 0} (s : Shape T) (m : Machine M T A) (hand : Hand S) where
+module _ {S T M A : Type 0} (s : Shape T) (m : Machine M T A) (left : M → PassMemory → Type 0) (hand : Hand S) where
   -- the walk of a call of the hand is here, and its last step has found v
   abbrev pub HasWalked : Seat ℕ SeatView → WalkRun → ℕ → Type 0
-  HasWalked seat walk v = (w : Walker (hand_calls s m hand)) × (turn : LastTurns) × WalkerIsTold w seat.me.0.passes walk turn v
+  HasWalked seat walk v = (w : Walker (hand_calls s m left hand)) × (turn : LastTurns) × WalkerIsTold w seat.me.0.passes walk turn v
 
   -- whichever call it is whose walk was here at the old seat, and had found v: at the new seat that
   -- has found f in the end
   abbrev pub WalkFinds : Seat ℕ SeatView → WalkRun → ℕ → Seat ℕ SeatView → Found → Type 0
-  WalkFinds old walk v new f = (w : Walker (hand_calls s m hand)) (turn : LastTurns) → WalkerIsTold w old.me.0.passes walk turn v → WalkerFinds w new.me.0.passes walk.way walk.goal turn f
+  WalkFinds old walk v new f = (w : Walker (hand_calls s m left hand)) (turn : LastTurns) → WalkerIsTold w old.me.0.passes walk turn v → WalkerFinds w new.me.0.passes walk.way walk.goal turn f
 
   -- or it goes down to this side of the fork, with the head in this word: there it has turned last
   -- if that counts
   abbrev pub WalkGoesDown : Seat ℕ SeatView → WalkRun → ℕ → Seat ℕ SeatView → Side → Bool → Type 0
-  WalkGoesDown old walk word new side counts = (w : Walker (hand_calls s m hand)) (turn : LastTurns) → WalkerIsTold w old.me.0.passes walk turn word → WalkerGoesDown w new.me.0.passes walk.way walk.goal walk.trail (head_of word).level side (with_turn_if counts side walk.trail.node turn)
+  WalkGoesDown old walk word new side counts = (w : Walker (hand_calls s m left hand)) (turn : LastTurns) → WalkerIsTold w old.me.0.passes walk turn word → WalkerGoesDown w new.me.0.passes walk.way walk.goal walk.trail (head_of word).level side (with_turn_if counts side walk.trail.node turn)
 
   -- a call of the hand is to walk by this way to this goal, from the root on
   abbrev pub MayWalk : Seat ℕ SeatView → Way → Goal → Type 0
-  MayWalk seat way goal = (w : Walker (hand_calls s m hand)) × WalksFromRoot w seat.me.0.passes way goal
+  MayWalk seat way goal = (w : Walker (hand_calls s m left hand)) × WalksFromRoot w seat.me.0.passes way goal
 
   -- whichever call was to do so at the old seat: at the new one its walk has found f in the end,
   -- and these forks are the last where it has turned
   abbrev pub WalkEnds : Seat ℕ SeatView → Way → Goal → Seat ℕ SeatView → LastTurns → Found → Type 0
-  WalkEnds old way goal new turns f = (w : Walker (hand_calls s m hand)) → WalksFromRoot w old.me.0.passes way goal → WalkerFinds w new.me.0.passes way goal turns f
+  WalkEnds old way goal new turns f = (w : Walker (hand_calls s m left hand)) → WalksFromRoot w old.me.0.passes way goal → WalkerFinds w new.me.0.passes way goal turns f
 
   -- a call of the hand is to walk by this way to this goal, from this place on
   abbrev pub MayWalkFrom : Seat ℕ SeatView → Way → Goal → Reached → Type 0
-  MayWalkFrom seat way goal first = (w : Walker (hand_calls s m hand)) × WalkerIsAt w seat.me.0.passes way goal first
+  MayWalkFrom seat way goal first = (w : Walker (hand_calls s m left hand)) × WalkerIsAt w seat.me.0.passes way goal first
 
   -- whichever call was to do so at the old seat: at the new one its walk has found f in the end,
   -- and these forks are the last where it has turned
   abbrev pub WalkEndsFrom : Seat ℕ SeatView → Way → Goal → Reached → Seat ℕ SeatView → LastTurns → Found → Type 0
-  WalkEndsFrom old way goal first new turns f = (w : Walker (hand_calls s m hand)) → WalkerIsAt w old.me.0.passes way goal first → WalkerFinds w new.me.0.passes way goal turns f
+  WalkEndsFrom old way goal first new turns f = (w : Walker (hand_calls s m left hand)) → WalkerIsAt w old.me.0.passes way goal first → WalkerFinds w new.me.0.passes way goal turns f

@@ -4,8 +4,10 @@ use mathlib.Core.Option.{some}
 use lib.ListN.{get_elem?}
 use Rattle.atomic_table.specs.Seated.{TableId}
 use Rattle.atomic_table.specs.Table.{State}
+use Rattle.arena.specs.Share.{whole_share}
 use Rattle.histories.specs.Common.{Layout, Settled, Head, Word, LoadSettled, Load, Row, place, table_size, IsWord, node, word_after, History, Opened, ◌⊳◌, value, IsRun, IsTold}
 use Rattle.planting.specs.Plantings.{PlantingView, opening_for}
+use Rattle.prims.specs.Shares.{share_end}
 use Rattle.slots.specs.Lasting.{Lasting, slot_word, table_place}
 use Rattle.forest.specs.declared.rule.CallStep.{CallStep}
 use Rattle.forest.specs.declared.memory.PassMemory.{PassMemory}
@@ -27,6 +29,14 @@ seated_pass n lay planting memory rows = record { number = record { 0 = n }; lay
 -- what a pass remembers that has not rested, and has noted nothing
 abbrev pub no_memory : PassMemory
 no_memory = record { rested = []; away = false; often = 0; nodes_to = 0; scx_to = 0; notes = []; polls = []; holds = []; empty = []; zeros = [] }
+
+-- where its names end that are dealt: the nodes, and the SCX-records
+abbrev pub dealt_to : PassMemory → ℕ × ℕ
+dealt_to m = (m.nodes_to, m.scx_to)
+
+-- what pass c remembers where all of its names are dealt from the start
+abbrev pub all_dealt : Layout → ℕ → PassMemory
+all_dealt lay c = let end : ℕ × ℕ = share_end (whole_share lay c) in record no_memory { nodes_to = end.0; scx_to = end.1 }
 
 -- what a seat knows that has these passes
 abbrev pub seat_view : List SeatedPass → SeatView
@@ -119,9 +129,9 @@ abbrev pub passes_with : (ℕ → PassMemory) → Plot → ℕ → ℕ → List 
 passes_with memory plot from zero = []
 passes_with memory plot from (suc n) = seated_pass from plot.layout plot.planting (memory from) [] ∷ passes_with memory plot (suc from) n
 
--- so many that remember nothing either
+-- so many that have all of their names dealt
 abbrev pub new_passes : Plot → ℕ → ℕ → List SeatedPass
-new_passes = passes_with (λ c. no_memory)
+new_passes plot = passes_with (all_dealt plot.layout) plot
 
 -- the passes after the first
 abbrev pub rest_of : List SeatedPass → List SeatedPass

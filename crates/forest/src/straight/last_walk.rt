@@ -40,11 +40,11 @@ fn end_at<S: Shape, M: CallMachine<S>>(
     requires table { IsAt hand seat.old }
     requires start { start ≡ node_begins (hand_slots hand) trail.node }
     requires slot { slot ≡ end_slot side more }
-    requires told { HasWalked S.Shape M.Machine hand seat.old
+    requires told { HasWalked S.Shape M.Machine M.left_dealt hand seat.old
         (way_at way (Goal.End side) trail (WalkAt.More head)) more }
     ensures table { StaysAtTable seat.old seat.new }
     ensures steps { steps_made seat.new ≡ steps_made seat.old + 3 }
-    ensures finds { WalkFinds S.Shape M.Machine hand.entry seat.old
+    ensures finds { WalkFinds S.Shape M.Machine M.left_dealt hand.entry seat.old
         (way_at way (Goal.End side) trail (WalkAt.More head)) more seat.new result }
 {
     let (kind, part) = (Kind::LoadSettled, NodeWord::Settled(SettledPart::Key(slot)));
@@ -68,11 +68,11 @@ fn end_at_side<S: Shape, M: CallMachine<S>>(
 ) -> Found
     requires table { IsAt hand seat.old }
     requires start { start ≡ node_begins (hand_slots hand) trail.node }
-    requires told { HasWalked S.Shape M.Machine hand seat.old
+    requires told { HasWalked S.Shape M.Machine M.left_dealt hand seat.old
         (way_at way (Goal.End side) trail (WalkAt.More head)) more }
     ensures table { StaysAtTable seat.old seat.new }
     ensures steps { steps_made seat.new ≡ steps_made seat.old + 3 }
-    ensures finds { WalkFinds S.Shape M.Machine hand.entry seat.old
+    ensures finds { WalkFinds S.Shape M.Machine M.left_dealt hand.entry seat.old
         (way_at way (Goal.End side) trail (WalkAt.More head)) more seat.new result }
 {
     match end_slot(side, more) {
@@ -99,11 +99,11 @@ fn end_last<S: Shape, M: CallMachine<S>>(
     requires table { IsAt hand seat.old }
     requires stands { AsksHead (hand_slots hand) trail at start }
     requires leaf { (head_of word).leaf ≡ true }
-    requires told { HasWalked S.Shape M.Machine hand seat.old (way_at way (Goal.End side) trail at)
+    requires told { HasWalked S.Shape M.Machine M.left_dealt hand seat.old (way_at way (Goal.End side) trail at)
         word }
     ensures table { StaysAtTable seat.old seat.new }
     ensures steps { steps_made seat.new ≤ steps_made seat.old + 7 }
-    ensures finds { WalkFinds S.Shape M.Machine hand.entry seat.old
+    ensures finds { WalkFinds S.Shape M.Machine M.left_dealt hand.entry seat.old
         (way_at way (Goal.End side) trail at) word seat.new result }
 {
     let head = Head::of(word);
@@ -138,14 +138,14 @@ fn pass_last<S: Shape, M: CallMachine<S>>(
     requires stands { AsksHead (hand_slots hand) trail at start }
     requires left { (head_of word).leaf ≡ false
         → open_side (Goal.End side) (head_of word) ≡ Side.Left }
-    requires told { HasWalked S.Shape M.Machine hand seat.old (way_at way (Goal.End side) trail at)
+    requires told { HasWalked S.Shape M.Machine M.left_dealt hand seat.old (way_at way (Goal.End side) trail at)
         word }
     ensures table { StaysAtTable seat.old seat.new }
     ensures steps { MatchResult result (λ _. steps_made seat.new ≡ steps_made seat.old)
         (λ _. steps_made seat.new ≤ steps_made seat.old + 7) }
-    ensures down { IfOk result (λ to. WalkGoesDown S.Shape M.Machine hand.entry seat.old
+    ensures down { IfOk result (λ to. WalkGoesDown S.Shape M.Machine M.left_dealt hand.entry seat.old
         (way_at way (Goal.End side) trail at) word seat.new to false) }
-    ensures finds { IfErr result (WalkFinds S.Shape M.Machine hand.entry seat.old
+    ensures finds { IfErr result (WalkFinds S.Shape M.Machine M.left_dealt hand.entry seat.old
         (way_at way (Goal.End side) trail at) word seat.new) }
 {
     if is_leaf(word) {
@@ -178,7 +178,7 @@ fn descend_right<S: Shape, M: CallMachine<S>>(
 ) -> (Reached, u64)
     requires table { IsAt hand seat.old }
     requires stands { AsksHead (hand_slots hand) first.trail first.at first.start }
-    requires told { (w : Walker (hand_calls S.Shape M.Machine hand))
+    requires told { (w : Walker (hand_calls S.Shape M.Machine M.left_dealt hand))
         × WalkerIsTold w seat.old.me.0.passes
         (way_at way (Goal.End Side.Right) first.trail first.at) first.turns head }
     ensures stands { AsksHead (hand_slots hand.entry) result.0.trail result.0.at result.0.start }
@@ -188,7 +188,7 @@ fn descend_right<S: Shape, M: CallMachine<S>>(
     ensures nearer { WalksNearer seat.old seat.new
         (walk_left first.at (room way (shared_nodes (names hand.entry))))
         (walk_left result.0.at (room way (shared_nodes (names hand.entry)))) }
-    ensures told { (w : Walker (hand_calls S.Shape M.Machine hand.entry))
+    ensures told { (w : Walker (hand_calls S.Shape M.Machine M.left_dealt hand.entry))
         → WalkerIsTold w seat.old.me.0.passes
         (way_at way (Goal.End Side.Right) first.trail first.at) first.turns head
         → WalkerIsTold w seat.new.me.0.passes
@@ -215,11 +215,11 @@ pub(crate) fn to_last_from<S: Shape, M: CallMachine<S>>(
 ) -> (Found, LastTurns)
     requires table { IsAt hand seat.old }
     requires stands { AsksHead (hand_slots hand) first.trail first.at first.start }
-    requires waits { MayWalkFrom S.Shape M.Machine hand seat.old way (Goal.End Side.Right) first }
+    requires waits { MayWalkFrom S.Shape M.Machine M.left_dealt hand seat.old way (Goal.End Side.Right) first }
     ensures table { StaysAtTable seat.old seat.new }
     ensures steps { steps_made seat.new ≤ steps_made seat.old
         + suc (walk_left first.at (room way (shared_nodes (names hand.entry)))) }
-    ensures finds { WalkEndsFrom S.Shape M.Machine hand.entry seat.old way (Goal.End Side.Right)
+    ensures finds { WalkEndsFrom S.Shape M.Machine M.left_dealt hand.entry seat.old way (Goal.End Side.Right)
         first seat.new result.1 result.0 }
 {
     let layout = *hand.layout;

@@ -73,12 +73,12 @@ pub(crate) fn read<S: Shape, M: CallMachine<S>>(
 ) -> u64
     requires table { IsAt hand seat.old }
     requires start { start ≡ node_begins (hand_slots hand) node }
-    requires waits { (w : Walker (hand_calls S.Shape M.Machine hand)) × (m : WalkRun)
+    requires waits { (w : Walker (hand_calls S.Shape M.Machine M.left_dealt hand)) × (m : WalkRun)
         × (turn : LastTurns)
         × WalkerWaits w seat.old.me.0.passes m turn (load kind (Word.Node node part)) }
     ensures table { StaysAtTable seat.old seat.new }
     ensures one { steps_made seat.new ≡ suc (steps_made seat.old) }
-    ensures told { (w : Walker (hand_calls S.Shape M.Machine hand.entry)) (m : WalkRun)
+    ensures told { (w : Walker (hand_calls S.Shape M.Machine M.left_dealt hand.entry)) (m : WalkRun)
         (turn : LastTurns)
         → WalkerWaits w seat.old.me.0.passes m turn (load kind (Word.Node node part))
         → WalkerIsTold w seat.new.me.0.passes m turn result }
@@ -130,11 +130,11 @@ pub(crate) fn end_with<S: Shape, M: CallMachine<S>>(
     requires table { IsAt hand seat.old }
     requires start { start ≡ node_begins (hand_slots hand) trail.node }
     requires asked { asked_key goal key ≡ key }
-    requires told { HasWalked S.Shape M.Machine hand seat.old
+    requires told { HasWalked S.Shape M.Machine M.left_dealt hand seat.old
         (way_at way goal trail (WalkAt.Pair head more slot)) key }
     ensures table { StaysAtTable seat.old seat.new }
     ensures steps { steps_made seat.new ≡ steps_made seat.old + 2 }
-    ensures finds { WalkFinds S.Shape M.Machine hand.entry seat.old
+    ensures finds { WalkFinds S.Shape M.Machine M.left_dealt hand.entry seat.old
         (way_at way goal trail (WalkAt.Pair head more slot)) key seat.new result }
 {
     let kind = Kind::LoadSettled;
@@ -165,13 +165,13 @@ pub(crate) fn descend<S: Shape, M: CallMachine<S>>(
 ) -> Reached
     requires table { IsAt hand seat.old }
     requires start { place.start ≡ node_begins (hand_slots hand) place.trail.node }
-    requires waits { (w : Walker (hand_calls S.Shape M.Machine hand))
+    requires waits { (w : Walker (hand_calls S.Shape M.Machine M.left_dealt hand))
         × WalkerGoesDown w seat.old.me.0.passes way goal place.trail (head_of word).level side
         place.turns }
     ensures table { StaysAtTable seat.old seat.new }
     ensures one { steps_made seat.new ≡ suc (steps_made seat.old) }
     ensures below { AsksBelow (hand_slots hand.entry) way (head_of word).level result }
-    ensures down { (w : Walker (hand_calls S.Shape M.Machine hand.entry))
+    ensures down { (w : Walker (hand_calls S.Shape M.Machine M.left_dealt hand.entry))
         → WalkerGoesDown w seat.old.me.0.passes way goal place.trail (head_of word).level side
         place.turns
         → WalkerWaits w seat.new.me.0.passes (way_at way goal result.trail result.at) result.turns

@@ -46,9 +46,9 @@ fn fill<S: Shape, M: CallMachine<S>, T: Shape>(
 ) -> u64
     requires table { IsAt hand seat.old }
     requires start { start ≡ scx_begins (hand_slots hand) scx }
-    requires waits { WaitsInside (hand_calls S.Shape M.Machine hand) (inner_scx T.allows)
+    requires waits { WaitsInside (hand_calls S.Shape M.Machine M.left_dealt hand) (inner_scx T.allows)
         seat.old (scx_fill scx part value) }
-    ensures { MakesInside (hand_calls S.Shape M.Machine hand.entry) (inner_scx T.allows)
+    ensures { MakesInside (hand_calls S.Shape M.Machine M.left_dealt hand.entry) (inner_scx T.allows)
         seat.old seat.new (scx_fill scx part value) result }
 {
     let (kind, word) = (Kind::Fill, Word::Scx(scx, part));
@@ -68,17 +68,17 @@ fn fill_member<S: Shape, M: CallMachine<S>, T: Shape, L: SnapList>(
 ) -> Option<MemberIndex>
     requires table { IsAt hand seat.old }
     requires start { start ≡ scx_begins (hand_slots hand) change.scx }
-    requires waits { (k : Changer T.allows (hand_calls S.Shape M.Machine hand))
+    requires waits { (k : Changer T.allows (hand_calls S.Shape M.Machine M.left_dealt hand))
         × FillsMember k seat.old.me.0.passes (L.list snaps.now) change j }
     ensures table { StaysAtTable seat.old seat.new }
     ensures one { steps_made seat.new ≡ suc (steps_made seat.old) }
     ensures behind { IfSome result (λ next. (member_index next ≡ member_index j + 1)
         × (member_index next < 4)) }
     ensures next { IfSome result (λ next.
-        (k : Changer T.allows (hand_calls S.Shape M.Machine hand.entry))
+        (k : Changer T.allows (hand_calls S.Shape M.Machine M.left_dealt hand.entry))
         → FillsMember k seat.old.me.0.passes (L.list snaps.now) change j
         → FillsMember k seat.new.me.0.passes (L.list snaps.now) change next) }
-    ensures last { IfNone result ((k : Changer T.allows (hand_calls S.Shape M.Machine hand.entry))
+    ensures last { IfNone result ((k : Changer T.allows (hand_calls S.Shape M.Machine M.left_dealt hand.entry))
         → FillsMember k seat.old.me.0.passes (L.list snaps.now) change j
         → FillsSeen k seat.new.me.0.passes (L.list snaps.now) change MemberIndex.First) }
 {
@@ -99,10 +99,10 @@ fn fill_members<S: Shape, M: CallMachine<S>, T: Shape, L: SnapList>(
 )
     requires table { IsAt hand seat.old }
     requires start { start ≡ scx_begins (hand_slots hand) change.scx }
-    requires waits { (k : Changer T.allows (hand_calls S.Shape M.Machine hand))
+    requires waits { (k : Changer T.allows (hand_calls S.Shape M.Machine M.left_dealt hand))
         × FillsMember k seat.old.me.0.passes (L.list snaps.now) change MemberIndex.First }
     ensures { Leads seat.old seat.new 4
-        (λ (k : Changer T.allows (hand_calls S.Shape M.Machine hand.entry)) ps.
+        (λ (k : Changer T.allows (hand_calls S.Shape M.Machine M.left_dealt hand.entry)) ps.
         FillsMember k ps (L.list snaps.now) change MemberIndex.First)
         (λ k ps. FillsSeen k ps (L.list snaps.now) change MemberIndex.First) }
 {
@@ -131,17 +131,17 @@ fn fill_seen<S: Shape, M: CallMachine<S>, T: Shape, L: SnapList>(
 ) -> Option<MemberIndex>
     requires table { IsAt hand seat.old }
     requires start { start ≡ scx_begins (hand_slots hand) change.scx }
-    requires waits { (k : Changer T.allows (hand_calls S.Shape M.Machine hand))
+    requires waits { (k : Changer T.allows (hand_calls S.Shape M.Machine M.left_dealt hand))
         × FillsSeen k seat.old.me.0.passes (L.list snaps.now) change j }
     ensures table { StaysAtTable seat.old seat.new }
     ensures one { steps_made seat.new ≡ suc (steps_made seat.old) }
     ensures behind { IfSome result (λ next. (member_index next ≡ member_index j + 1)
         × (member_index next < 4)) }
     ensures next { IfSome result (λ next.
-        (k : Changer T.allows (hand_calls S.Shape M.Machine hand.entry))
+        (k : Changer T.allows (hand_calls S.Shape M.Machine M.left_dealt hand.entry))
         → FillsSeen k seat.old.me.0.passes (L.list snaps.now) change j
         → FillsSeen k seat.new.me.0.passes (L.list snaps.now) change next) }
-    ensures last { IfNone result ((k : Changer T.allows (hand_calls S.Shape M.Machine hand.entry))
+    ensures last { IfNone result ((k : Changer T.allows (hand_calls S.Shape M.Machine M.left_dealt hand.entry))
         → FillsSeen k seat.old.me.0.passes (L.list snaps.now) change j
         → FillsCall k seat.new.me.0.passes (L.list snaps.now) change) }
 {
@@ -162,10 +162,10 @@ fn fill_infos<S: Shape, M: CallMachine<S>, T: Shape, L: SnapList>(
 )
     requires table { IsAt hand seat.old }
     requires start { start ≡ scx_begins (hand_slots hand) change.scx }
-    requires waits { (k : Changer T.allows (hand_calls S.Shape M.Machine hand))
+    requires waits { (k : Changer T.allows (hand_calls S.Shape M.Machine M.left_dealt hand))
         × FillsSeen k seat.old.me.0.passes (L.list snaps.now) change MemberIndex.First }
     ensures { Leads seat.old seat.new 4
-        (λ (k : Changer T.allows (hand_calls S.Shape M.Machine hand.entry)) ps.
+        (λ (k : Changer T.allows (hand_calls S.Shape M.Machine M.left_dealt hand.entry)) ps.
         FillsSeen k ps (L.list snaps.now) change MemberIndex.First)
         (λ k ps. FillsCall k ps (L.list snaps.now) change) }
 {
@@ -193,10 +193,10 @@ pub(crate) fn fill_all<S: Shape, M: CallMachine<S>, T: Shape, L: SnapList>(
 ) -> u64
     requires table { IsAt hand seat.old }
     requires start { start ≡ scx_begins (hand_slots hand) change.scx }
-    requires waits { (k : Changer T.allows (hand_calls S.Shape M.Machine hand))
+    requires waits { (k : Changer T.allows (hand_calls S.Shape M.Machine M.left_dealt hand))
         × FillsPlan k seat.old.me.0.passes (L.list snaps.now) change }
     ensures { Leads seat.old seat.new 12
-        (λ (k : Changer T.allows (hand_calls S.Shape M.Machine hand.entry)) ps.
+        (λ (k : Changer T.allows (hand_calls S.Shape M.Machine M.left_dealt hand.entry)) ps.
         FillsPlan k ps (L.list snaps.now) change)
         (λ k ps. InnerIsTold k ps (changing_at (L.list snaps.now) change ScxAt.Call) result) }
 {
@@ -221,11 +221,11 @@ pub(crate) fn call<S: Shape, M: CallMachine<S>, T: Shape, L: SnapList>(
     help: &mut HelpRun,
 ) -> bool
     requires table { IsAt hand seat.old }
-    requires waits { (k : Changer T.allows (hand_calls S.Shape M.Machine hand))
+    requires waits { (k : Changer T.allows (hand_calls S.Shape M.Machine M.left_dealt hand))
         × FillsPlan k seat.old.me.0.passes (L.list snaps.now) change }
     requires begins { (help.old.scx ≡ change.scx) × (help.old.at ≡ HelpAt.Start) }
     ensures leads { Leads seat.old seat.new 34
-        (λ (k : Changer T.allows (hand_calls S.Shape M.Machine hand.entry)) ps.
+        (λ (k : Changer T.allows (hand_calls S.Shape M.Machine M.left_dealt hand.entry)) ps.
         FillsPlan k ps (L.list snaps.now) change)
         (λ k ps. IsBehindChange k ps (L.list snaps.now) change help.new result) }
     ensures left { result ≡ false → steps_made seat.new + suc (help_left help.new.at)

@@ -29,11 +29,11 @@ pub(crate) fn step_from<S: Shape, M: CallMachine<S>>(
     requires table { IsAt hand seat.old }
     requires start { start ≡ word_begins (hand_slots hand) step.word }
     requires waits { (c : Call) × (first : M) × (m : M) × IsCallOf hand c
-        × Waits S.allows M.waits M.same c seat.old.me.0.passes first m step }
+        × Waits S.allows M.waits M.same M.left_dealt c seat.old.me.0.passes first m step }
     ensures table { StaysAtTable seat.old seat.new }
     ensures told { (c : Call) (first m : M) → IsCallOf hand.entry c
-        → Waits S.allows M.waits M.same c seat.old.me.0.passes first m step
-        → Told S.allows M.waits M.same c seat.new.me.0.passes first M.ready m result }
+        → Waits S.allows M.waits M.same M.left_dealt c seat.old.me.0.passes first m step
+        → Told S.allows M.waits M.same M.left_dealt c seat.new.me.0.passes first M.ready m result }
     ensures one { steps_made seat.new ≡ suc (steps_made seat.old) }
     ensures row { (p : SeatedPass) × (seat.old.me.0.passes ≡ p ∷ [])
         × IsStepBehind p.known (known_of seat.new.me.0.passes) p.number.0 hand.entry.number
@@ -56,11 +56,11 @@ pub(crate) fn step<S: Shape, M: CallMachine<S>>(
 ) -> u64
     requires table { IsAt hand seat.old }
     requires waits { (c : Call) × (first : M) × (m : M) × IsCallOf hand c
-        × Waits S.allows M.waits M.same c seat.old.me.0.passes first m step }
+        × Waits S.allows M.waits M.same M.left_dealt c seat.old.me.0.passes first m step }
     ensures table { StaysAtTable seat.old seat.new }
     ensures told { (c : Call) (first m : M) → IsCallOf hand.entry c
-        → Waits S.allows M.waits M.same c seat.old.me.0.passes first m step
-        → Told S.allows M.waits M.same c seat.new.me.0.passes first M.ready m result }
+        → Waits S.allows M.waits M.same M.left_dealt c seat.old.me.0.passes first m step
+        → Told S.allows M.waits M.same M.left_dealt c seat.new.me.0.passes first M.ready m result }
     ensures one { steps_made seat.new ≡ suc (steps_made seat.old) }
     ensures row { (p : SeatedPass) × (seat.old.me.0.passes ≡ p ∷ [])
         × IsStepBehind p.known (known_of seat.new.me.0.passes) p.number.0 hand.entry.number

@@ -97,11 +97,11 @@ fn end_from<S: Shape, M: CallMachine<S>>(
     requires table { IsAt hand seat.old }
     requires start { start ≡ node_begins (hand_slots hand) trail.node }
     requires first { first ≡ goal_slot goal more }
-    requires told { HasWalked S.Shape M.Machine hand seat.old
+    requires told { HasWalked S.Shape M.Machine M.left_dealt hand seat.old
         (way_at way goal trail (WalkAt.More head)) more }
     ensures table { StaysAtTable seat.old seat.new }
     ensures steps { steps_made seat.new ≤ steps_made seat.old + 6 }
-    ensures finds { WalkFinds S.Shape M.Machine hand.entry seat.old
+    ensures finds { WalkFinds S.Shape M.Machine M.left_dealt hand.entry seat.old
         (way_at way goal trail (WalkAt.More head)) more seat.new result }
 {
     let mut slot = first;
@@ -143,10 +143,10 @@ fn end<S: Shape, M: CallMachine<S>>(
     requires table { IsAt hand seat.old }
     requires stands { AsksHead (hand_slots hand) trail at start }
     requires leaf { (head_of word).leaf ≡ true }
-    requires told { HasWalked S.Shape M.Machine hand seat.old (way_at way goal trail at) word }
+    requires told { HasWalked S.Shape M.Machine M.left_dealt hand seat.old (way_at way goal trail at) word }
     ensures table { StaysAtTable seat.old seat.new }
     ensures steps { steps_made seat.new ≤ steps_made seat.old + 7 }
-    ensures finds { WalkFinds S.Shape M.Machine hand.entry seat.old (way_at way goal trail at) word
+    ensures finds { WalkFinds S.Shape M.Machine M.left_dealt hand.entry seat.old (way_at way goal trail at) word
         seat.new result }
 {
     let head = Head::of(word);
@@ -260,12 +260,12 @@ fn pass_by_key<S: Shape, M: CallMachine<S>>(
     requires table { IsAt hand seat.old }
     requires stands { AsksHead (hand_slots hand) trail at start }
     requires asks { IsAskedFork goal (head_of word) }
-    requires told { HasWalked S.Shape M.Machine hand seat.old (way_at way goal trail at) word }
+    requires told { HasWalked S.Shape M.Machine M.left_dealt hand seat.old (way_at way goal trail at) word }
     ensures table { StaysAtTable seat.old seat.new }
     ensures one { steps_made seat.new ≡ suc (steps_made seat.old) }
-    ensures down { IfOk result (λ to. WalkGoesDown S.Shape M.Machine hand.entry seat.old
+    ensures down { IfOk result (λ to. WalkGoesDown S.Shape M.Machine M.left_dealt hand.entry seat.old
         (way_at way goal trail at) word seat.new to.0 to.1) }
-    ensures finds { IfErr result (WalkFinds S.Shape M.Machine hand.entry seat.old
+    ensures finds { IfErr result (WalkFinds S.Shape M.Machine M.left_dealt hand.entry seat.old
         (way_at way goal trail at) word seat.new) }
 {
     let (kind, part) = (
@@ -300,7 +300,7 @@ fn step_by_key<S: Shape, M: CallMachine<S>>(
     requires table { IsAt hand seat.old }
     requires stands { AsksHead (hand_slots hand) place.trail place.at place.start }
     requires asks { IsAskedFork goal (head_of word) }
-    requires told { (w : Walker (hand_calls S.Shape M.Machine hand))
+    requires told { (w : Walker (hand_calls S.Shape M.Machine M.left_dealt hand))
         × WalkerHasHead w seat.old.me.0.passes way goal place word }
     ensures table { StaysAtTable seat.old seat.new }
     ensures stands { IfOk result (λ to.
@@ -310,10 +310,10 @@ fn step_by_key<S: Shape, M: CallMachine<S>>(
         ≤ walk_left place.at (room way (shared_nodes (names hand.entry)))) }
     ensures steps { MatchResult result (λ _. steps_made seat.new ≡ steps_made seat.old + 3)
         (λ _. steps_made seat.new ≡ suc (steps_made seat.old)) }
-    ensures told { IfOk result (λ to. (w : Walker (hand_calls S.Shape M.Machine hand.entry))
+    ensures told { IfOk result (λ to. (w : Walker (hand_calls S.Shape M.Machine M.left_dealt hand.entry))
         → WalkerHasHead w seat.old.me.0.passes way goal place word
         → WalkerHasHead w seat.new.me.0.passes way goal to.0 to.1) }
-    ensures finds { IfErr result (λ found. (w : Walker (hand_calls S.Shape M.Machine hand.entry))
+    ensures finds { IfErr result (λ found. (w : Walker (hand_calls S.Shape M.Machine M.left_dealt hand.entry))
         → WalkerHasHead w seat.old.me.0.passes way goal place word
         → WalkerFinds w seat.new.me.0.passes way goal place.turns found) }
 {
@@ -343,7 +343,7 @@ fn descend_by_keys<S: Shape, M: CallMachine<S>>(
 ) -> Result<(Reached, u64), (Found, LastTurns)>
     requires table { IsAt hand seat.old }
     requires stands { AsksHead (hand_slots hand) first.trail first.at first.start }
-    requires told { (w : Walker (hand_calls S.Shape M.Machine hand))
+    requires told { (w : Walker (hand_calls S.Shape M.Machine M.left_dealt hand))
         × WalkerHasHead w seat.old.me.0.passes way goal first head }
     ensures table { StaysAtTable seat.old seat.new }
     ensures stands { IfOk result (λ to.
@@ -355,10 +355,10 @@ fn descend_by_keys<S: Shape, M: CallMachine<S>>(
         (walk_left to.0.at (room way (shared_nodes (names hand.entry))))) }
     ensures steps { IfErr result (λ _. steps_made seat.new ≤ steps_made seat.old
         + walk_left first.at (room way (shared_nodes (names hand.entry)))) }
-    ensures told { IfOk result (λ to. (w : Walker (hand_calls S.Shape M.Machine hand.entry))
+    ensures told { IfOk result (λ to. (w : Walker (hand_calls S.Shape M.Machine M.left_dealt hand.entry))
         → WalkerHasHead w seat.old.me.0.passes way goal first head
         → WalkerHasHead w seat.new.me.0.passes way goal to.0 to.1) }
-    ensures finds { IfErr result (λ ends. (w : Walker (hand_calls S.Shape M.Machine hand.entry))
+    ensures finds { IfErr result (λ ends. (w : Walker (hand_calls S.Shape M.Machine M.left_dealt hand.entry))
         → WalkerHasHead w seat.old.me.0.passes way goal first head
         → WalkerFinds w seat.new.me.0.passes way goal ends.1 ends.0) }
 {
@@ -392,13 +392,13 @@ fn pass_open<S: Shape, M: CallMachine<S>>(
     requires table { IsAt hand seat.old }
     requires stands { AsksHead (hand_slots hand) trail at start }
     requires open { (head_of word).leaf ≡ false → asks_key goal (head_of word) ≡ false }
-    requires told { HasWalked S.Shape M.Machine hand seat.old (way_at way goal trail at) word }
+    requires told { HasWalked S.Shape M.Machine M.left_dealt hand seat.old (way_at way goal trail at) word }
     ensures table { StaysAtTable seat.old seat.new }
     ensures steps { MatchResult result (λ _. steps_made seat.new ≡ steps_made seat.old)
         (λ _. steps_made seat.new ≤ steps_made seat.old + 7) }
-    ensures down { IfOk result (λ to. WalkGoesDown S.Shape M.Machine hand.entry seat.old
+    ensures down { IfOk result (λ to. WalkGoesDown S.Shape M.Machine M.left_dealt hand.entry seat.old
         (way_at way goal trail at) word seat.new to.0 to.1) }
-    ensures finds { IfErr result (WalkFinds S.Shape M.Machine hand.entry seat.old
+    ensures finds { IfErr result (WalkFinds S.Shape M.Machine M.left_dealt hand.entry seat.old
         (way_at way goal trail at) word seat.new) }
 {
     if is_leaf(word) {
@@ -420,11 +420,11 @@ fn to_goal_from<S: Shape, M: CallMachine<S>>(
     requires slot { (more : ℕ) → goal_slot goal more ≡ Slot.First }
     requires table { IsAt hand seat.old }
     requires stands { AsksHead (hand_slots hand) first.trail first.at first.start }
-    requires waits { MayWalkFrom S.Shape M.Machine hand seat.old way goal first }
+    requires waits { MayWalkFrom S.Shape M.Machine M.left_dealt hand seat.old way goal first }
     ensures table { StaysAtTable seat.old seat.new }
     ensures steps { steps_made seat.new ≤ steps_made seat.old
         + suc (walk_left first.at (room way (shared_nodes (names hand.entry)))) }
-    ensures finds { WalkEndsFrom S.Shape M.Machine hand.entry seat.old way goal first seat.new
+    ensures finds { WalkEndsFrom S.Shape M.Machine M.left_dealt hand.entry seat.old way goal first seat.new
         result.1 result.0 }
 {
     let layout = *hand.layout;
@@ -466,11 +466,11 @@ pub(crate) fn to_goal<S: Shape, M: CallMachine<S>>(
 ) -> (Found, LastTurns)
     requires first { (more : ℕ) → goal_slot goal more ≡ Slot.First }
     requires table { IsAt hand seat.old }
-    requires waits { MayWalk S.Shape M.Machine hand seat.old way goal }
+    requires waits { MayWalk S.Shape M.Machine M.left_dealt hand seat.old way goal }
     ensures table { StaysAtTable seat.old seat.new }
     ensures steps { steps_made seat.new ≤ steps_made seat.old
         + (3 * (2 + room way (shared_nodes (names hand.entry))) + 5) }
-    ensures finds { WalkEnds S.Shape M.Machine hand.entry seat.old way goal seat.new result.1
+    ensures finds { WalkEnds S.Shape M.Machine M.left_dealt hand.entry seat.old way goal seat.new result.1
         result.0 }
 {
     to_goal_from::<S, M>(hand, seat, way, goal, Reached::root())
@@ -489,11 +489,11 @@ pub(crate) fn call_from<S: Shape, M: CallMachine<S>, E: Edit>(
 ) -> (Found, LastTurns)
     requires table { IsAt hand seat.old }
     requires stands { AsksHead (hand_slots hand) first.trail first.at first.start }
-    requires waits { MayWalkFrom S.Shape M.Machine hand seat.old way goal first }
+    requires waits { MayWalkFrom S.Shape M.Machine M.left_dealt hand seat.old way goal first }
     ensures table { StaysAtTable seat.old seat.new }
     ensures steps { steps_made seat.new ≤ steps_made seat.old
         + suc (walk_left first.at (room way (shared_nodes (names hand.entry)))) }
-    ensures finds { WalkEndsFrom S.Shape M.Machine hand.entry seat.old way goal first seat.new
+    ensures finds { WalkEndsFrom S.Shape M.Machine M.left_dealt hand.entry seat.old way goal first seat.new
         result.1 result.0 }
 {
     match goal {

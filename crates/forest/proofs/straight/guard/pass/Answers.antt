@@ -18,7 +18,7 @@ use Rattle.forest.proofs.straight.guard.pass.Goals.{After-step-head, After-root-
 use Rattle.forest.proofs.straight.guard.pass.Goals as goal
 
 -- whichever call begins, its guard's mark is what it loads behind the head of the root
-looks : (g : Over) (c : After-step-head g) (u : Updater (calls g.S.Shape g.M.Machine (names c.args.hand) c.args.hand.number) g.E.Edit.means) → UpdaterBegins u c.args.seat.now.me.0.passes c.args.run.now → LoadsMark (guard_looker u c.args.run.now c.args.way c.args.goal c.step-head.result) c.step-head.new.seat.me.0.passes record { 0 = 2 }
+looks : (g : Over) (c : After-step-head g) (u : Updater (calls g.S.Shape g.M.Machine g.M.CallMachine.left_dealt (names c.args.hand) c.args.hand.number) g.E.Edit.means) → UpdaterBegins u c.args.seat.now.me.0.passes c.args.run.now → LoadsMark (guard_looker u c.args.run.now c.args.way c.args.goal c.step-head.result) c.step-head.new.seat.me.0.passes record { 0 = 2 }
 looks g c u x = looks_at_guard u c.args.run.now c.args.way c.args.goal c.step-head.result _ c.requires.guard
     (c.step-head.ensures.told u.call u.first (u.with_run (rooted u c.args.run.now c.args.way c.args.goal)) (u.is_layout, u.is_number)
     (rw c.load-asked.ensures (roots u c.args.run.now c.args.way c.args.goal _ c.requires.goes.0 c.requires.goes.1 x)))
@@ -42,7 +42,7 @@ returns-in-Err-clause-ends g c = record {
 }
 
 -- and behind its guard it goes down from the root
-below : (g : Over) (c : After-root-root g) (u : Updater (calls g.S.Shape g.M.Machine (names c.args.hand) c.args.hand.number) g.E.Edit.means) → LoadsMark (guard_looker u c.args.run.now c.args.way c.args.goal c.step-head.result) c.step-head.new.seat.me.0.passes record { 0 = 2 }
+below : (g : Over) (c : After-root-root g) (u : Updater (calls g.S.Shape g.M.Machine g.M.CallMachine.left_dealt (names c.args.hand) c.args.hand.number) g.E.Edit.means) → LoadsMark (guard_looker u c.args.run.now c.args.way c.args.goal c.step-head.result) c.step-head.new.seat.me.0.passes record { 0 = 2 }
     → WalkerGoesDown (walker u (record c.args.run.now { guard = c.in-Ok.snap })) c.look.new.seat.me.0.passes c.args.way c.args.goal c.root-root.result.trail (head_of c.step-head.result).level Left c.root-root.result.turns
 below g c u x = rw c.root-root.ensures (passes_guard u c.args.run.now c.args.way c.args.goal c.step-head.result _ c.in-Ok.snap (c.in-Ok.ensures.snaps (guard_looker u c.args.run.now c.args.way c.args.goal c.step-head.result) x) no_turns)
 

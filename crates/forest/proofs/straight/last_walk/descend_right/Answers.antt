@@ -13,7 +13,7 @@ use Rattle.forest.proofs.straight.last_walk.descend_right.Goals.{After-goes_righ
 use Rattle.forest.proofs.straight.last_walk.descend_right.Goals as goal
 
 -- whichever call it is, it goes right
-down : (g : Over) (c : After-goes_right g) → c.goes_right.result ≡ true → (w : Walker (calls g.S.Shape g.M.Machine (names c.args.hand) c.args.hand.number))
+down : (g : Over) (c : After-goes_right g) → c.goes_right.result ≡ true → (w : Walker (calls g.S.Shape g.M.Machine g.M.CallMachine.left_dealt (names c.args.hand) c.args.hand.number))
     → WalkerIsTold w c.args.seat.now.me.0.passes (way_at c.args.way (End Right) c.args.first.trail c.args.first.at) c.args.first.turns c.args.head
     → WalkerGoesDown w c.loop-way.seat.me.0.passes c.args.way (End Right) c.loop-way.place.trail (head_of c.loop-way.word).level Right c.loop-way.place.turns
 down g c known w x = to_known w _ c.args.way (End Right) c.loop-way.place.trail c.loop-way.place.turns c.loop-way.place.at c.loop-way.word (head_of c.loop-way.word) c.loop-way.invariant.loads refl Right (c.goes_right.ensures.fork known) refl (c.goes_right.ensures.right known) (c.loop-way.invariant.told w x)

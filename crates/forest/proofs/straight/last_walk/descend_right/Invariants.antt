@@ -17,7 +17,7 @@ invariant-loop-way g l = record {
   start : l.place.start ≡ node_begins (hand_slots l.fn.hand) l.place.trail.node;
   nearer : walk_left l.place.at (room l.way (shared_nodes (names l.fn.hand))) ≤ walk_left l.fn.first.at (room l.way (shared_nodes (names l.fn.hand)));
   steps : seat_steps l.seat.me.0.passes + walk_left l.place.at (room l.way (shared_nodes (names l.fn.hand))) ≤ seat_steps l.fn.seat.me.0.passes + walk_left l.fn.first.at (room l.way (shared_nodes (names l.fn.hand)));
-  told : (w : Walker (calls g.S.Shape g.M.Machine (names l.fn.hand) l.fn.hand.number))
+  told : (w : Walker (calls g.S.Shape g.M.Machine g.M.CallMachine.left_dealt (names l.fn.hand) l.fn.hand.number))
       → WalkerIsTold w l.fn.seat.me.0.passes (way_at l.way (End Right) l.fn.first.trail l.fn.first.at) l.fn.first.turns l.fn.head
       → WalkerIsTold w l.seat.me.0.passes (way_at l.way (End Right) l.place.trail l.place.at) l.place.turns l.word;
 }

@@ -14,13 +14,13 @@ use Rattle.forest.proofs.straight.last_walk.to_last_from.Goals.{After-read-head,
 use Rattle.forest.proofs.straight.last_walk.to_last_from.Goals as goal
 
 -- whichever call it is, it has got the head of this node
-told : (g : Over) (c : After-read-head g) (w : Walker (calls g.S.Shape g.M.Machine (names c.args.hand) c.args.hand.number))
+told : (g : Over) (c : After-read-head g) (w : Walker (calls g.S.Shape g.M.Machine g.M.CallMachine.left_dealt (names c.args.hand) c.args.hand.number))
     → WalkerIsAt w c.args.seat.now.me.0.passes c.args.way (End Right) c.args.first
     → WalkerIsTold w c.read-head.new.seat.me.0.passes (way_at c.args.way (End Right) c.loop-side.place.trail c.loop-side.place.at) c.loop-side.place.turns c.read-head.result
 told g c w x = c.read-head.ensures.told w (way_at c.args.way (End Right) c.loop-side.place.trail c.loop-side.place.at) c.loop-side.place.turns (c.loop-side.invariant.waits w x)
 
 -- and that of the node where it may not go right without a key
-told_last : (g : Over) (c : After-descend_right-word g) (w : Walker (calls g.S.Shape g.M.Machine (names c.args.hand) c.args.hand.number))
+told_last : (g : Over) (c : After-descend_right-word g) (w : Walker (calls g.S.Shape g.M.Machine g.M.CallMachine.left_dealt (names c.args.hand) c.args.hand.number))
     → WalkerIsAt w c.args.seat.now.me.0.passes c.args.way (End Right) c.args.first
     → WalkerIsTold w c.descend_right-word.new.seat.me.0.passes (way_at c.args.way (End Right) c.descend_right-word.result.0.trail c.descend_right-word.result.0.at) c.descend_right-word.result.0.turns c.descend_right-word.result.1
 told_last g c w x = c.descend_right-word.ensures.told w (told g (goal.at.descend_right-word-requires-clause-told g c.before).After-read-head w x)

@@ -18,7 +18,7 @@ invariant-loop-side g l = record {
   loads : LoadsHead l.place.at;
   start : l.place.start ≡ node_begins (hand_slots l.fn.hand) l.place.trail.node;
   steps : seat_steps l.seat.me.0.passes + suc (walk_left l.place.at (room l.way (shared_nodes (names l.fn.hand)))) ≤ seat_steps l.fn.seat.me.0.passes + suc (walk_left l.fn.first.at (room l.way (shared_nodes (names l.fn.hand))));
-  waits : (w : Walker (calls g.S.Shape g.M.Machine (names l.fn.hand) l.fn.hand.number))
+  waits : (w : Walker (calls g.S.Shape g.M.Machine g.M.CallMachine.left_dealt (names l.fn.hand) l.fn.hand.number))
       → WalkerIsAt w l.fn.seat.me.0.passes l.way (End Right) l.fn.first
       → WalkerWaits w l.seat.me.0.passes (way_at l.way (End Right) l.place.trail l.place.at) l.place.turns (load LoadSettled (node l.place.trail.node.0 (Settled Head)));
 }

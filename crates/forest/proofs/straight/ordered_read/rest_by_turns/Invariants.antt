@@ -9,7 +9,7 @@ use Rattle.forest.proofs.straight.ordered_read.rest_by_turns.Given as goal
 
 abbrev pub invariant-loop-next : goal.invariant-loop-next
 invariant-loop-next g l = record {
-  goes_on : ReadGoesOn g.S.Shape g.M.Machine g.R.Read.means l.hand 0 l.fn.seat l.fn.run (Ok l.fn.next) l.seat l.run (Ok l.next);
+  goes_on : ReadGoesOn g.S.Shape g.M.Machine g.M.CallMachine.left_dealt g.R.Read.means l.hand 0 l.fn.seat l.fn.run (Ok l.fn.next) l.seat l.run (Ok l.next);
 }
 
 abbrev pub decreases-loop-next : goal.decreases-loop-next

@@ -13,7 +13,7 @@ use Rattle.forest.proofs.straight.resume.finish.Goals.{After-step-turn}
 use Rattle.forest.proofs.straight.resume.finish.Goals as goal
 
 -- the update gets what its step has found
-told : (g : Over) (c : After-step-turn g) (u : Updater (calls g.S.Shape g.M.Machine (names c.args.hand) c.args.hand.number) g.E.Edit.means) → HostedStands u c.args.seat.now.me.0.passes c.args.machine c.args.turn → HostedIsTold u c.step-told.new.seat.me.0.passes c.loop-turn.machine c.step-told.result
+told : (g : Over) (c : After-step-turn g) (u : Updater (calls g.S.Shape g.M.Machine g.M.CallMachine.left_dealt (names c.args.hand) c.args.hand.number) g.E.Edit.means) → HostedStands u c.args.seat.now.me.0.passes c.args.machine c.args.turn → HostedIsTold u c.step-told.new.seat.me.0.passes c.loop-turn.machine c.step-told.result
 told g c u x = c.step-told.ensures.told u.call u.first (u.with_run c.loop-turn.machine) (u.is_layout, u.is_number) (rw c.in-Ask.is at c.loop-turn.invariant.stands u x)
 
 -- it has fewer steps left than before

@@ -9,7 +9,7 @@ use Rattle.forest.proofs.straight.resume.from_block.Goals.{After-copied}
 use Rattle.forest.proofs.straight.resume.from_block.Goals as goal
 
 -- taken up it waits as before
-blocked : (g : Over) (c : After-copied g) (u : Updater (calls g.S.Shape g.M.Machine (names c.args.hand) c.args.hand.number) g.E.Edit.means) → UpdaterIsBlocked u c.args.seat.now.me.0.passes c.args.run.now c.args.found.now c.args.scx c.args.help.now → UpdaterIsBlocked u c.args.seat.now.me.0.passes c.take_run-machine.result c.copied.result c.args.scx c.args.help.now
+blocked : (g : Over) (c : After-copied g) (u : Updater (calls g.S.Shape g.M.Machine g.M.CallMachine.left_dealt (names c.args.hand) c.args.hand.number) g.E.Edit.means) → UpdaterIsBlocked u c.args.seat.now.me.0.passes c.args.run.now c.args.found.now c.args.scx c.args.help.now → UpdaterIsBlocked u c.args.seat.now.me.0.passes c.take_run-machine.result c.copied.result c.args.scx c.args.help.now
 blocked g c u x = subst (λ (f : Found). UpdaterIsBlocked u c.args.seat.now.me.0.passes c.take_run-machine.result f c.args.scx c.args.help.now) (sym c.copied.ensures) (blocked_there u _ c.args.run.now c.take_run-machine.result c.args.found.now c.args.scx c.args.help.now c.take_run-machine.ensures x)
 
 pub take_run-machine-requires : goal.take_run-machine-requires

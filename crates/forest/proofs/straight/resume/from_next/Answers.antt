@@ -10,7 +10,7 @@ use Rattle.forest.proofs.straight.resume.from_next.Goals.{After-copied}
 use Rattle.forest.proofs.straight.resume.from_next.Goals as goal
 
 -- with a place again it continues as before
-goes_on : (g : Over) (c : After-copied g) (u : Updater (calls g.S.Shape g.M.Machine (names c.args.hand) c.args.hand.number) g.E.Edit.means) → UpdaterGoesOn u c.args.seat.now.me.0.passes c.args.run.now c.args.found.now c.args.next → UpdaterGoesOn u c.args.seat.now.me.0.passes c.take_run-machine.result c.copied.result c.args.next
+goes_on : (g : Over) (c : After-copied g) (u : Updater (calls g.S.Shape g.M.Machine g.M.CallMachine.left_dealt (names c.args.hand) c.args.hand.number) g.E.Edit.means) → UpdaterGoesOn u c.args.seat.now.me.0.passes c.args.run.now c.args.found.now c.args.next → UpdaterGoesOn u c.args.seat.now.me.0.passes c.take_run-machine.result c.copied.result c.args.next
 goes_on g c u x = subst (λ (f : Found). UpdaterGoesOn u c.args.seat.now.me.0.passes c.take_run-machine.result f c.args.next) (sym c.copied.ensures) (goes_there u _ c.args.run.now c.take_run-machine.result c.args.found.now c.args.next c.take_run-machine.ensures x)
 
 pub take_run-machine-requires : goal.take_run-machine-requires

@@ -18,7 +18,7 @@ use Rattle.forest.proofs.straight.update.call.Goals.{After-test_share-next}
 use Rattle.forest.proofs.straight.update.call.Goals as goal
 
 -- whichever call began, after its walk it continues as its try does
-goes_on : (g : Over) (c : After-test_share-next g) (u : Updater (calls g.S.Shape g.M.Machine (names c.args.hand) c.args.hand.number) g.E.Edit.means) → UpdaterBegins u c.args.seat.now.me.0.passes c.args.run.now → UpdaterGoesOn u c.call_from.new.seat.me.0.passes c.test_share-next.new.self c.copied-found.result c.test_share-next.result
+goes_on : (g : Over) (c : After-test_share-next g) (u : Updater (calls g.S.Shape g.M.Machine g.M.CallMachine.left_dealt (names c.args.hand) c.args.hand.number) g.E.Edit.means) → UpdaterBegins u c.args.seat.now.me.0.passes c.args.run.now → UpdaterGoesOn u c.call_from.new.seat.me.0.passes c.test_share-next.new.self c.copied-found.result c.test_share-next.result
 goes_on g c u x =
     let begun = c.in-Ok.ensures.walks in
     finds u _ c.begin.new.run c.test_share-next.new.self c.way-way.result c.goal-goal.result c.call_from.result.1 c.copied-found.result c.test_share-next.result

@@ -7,7 +7,7 @@ use Rattle.forest.proofs.straight.update.read_on.Given as goal
 
 abbrev pub invariant-loop-now : goal.invariant-loop-now
 invariant-loop-now g l = record {
-  goes_on : TryGoesOn g.S.Shape g.M.Machine g.E.Edit.means l.hand l.found l.fn.seat l.fn.run l.fn.next l.seat l.run (Ok l.now);
+  goes_on : TryGoesOn g.S.Shape g.M.Machine g.M.CallMachine.left_dealt g.E.Edit.means l.hand l.found l.fn.seat l.fn.run l.fn.next l.seat l.run (Ok l.now);
 }
 
 abbrev pub decreases-loop-now : goal.decreases-loop-now

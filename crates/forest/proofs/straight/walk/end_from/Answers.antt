@@ -12,7 +12,7 @@ use Rattle.forest.proofs.straight.walk.end_from.Goals.{After-read-key, Else-aske
 use Rattle.forest.proofs.straight.walk.end_from.Goals as goal
 
 -- whichever call it is, it has got the key in this slot
-told : (g : Over) (c : After-read-key g) (w : Walker (calls g.S.Shape g.M.Machine (names c.args.hand) c.args.hand.number)) (turn : LastTurns)
+told : (g : Over) (c : After-read-key g) (w : Walker (calls g.S.Shape g.M.Machine g.M.CallMachine.left_dealt (names c.args.hand) c.args.hand.number)) (turn : LastTurns)
     → WalkerIsTold w c.args.seat.now.me.0.passes (way_at c.args.way c.args.goal c.args.trail (More c.args.head)) turn c.args.more
     → WalkerIsTold w c.read-key.new.seat.me.0.passes (way_at c.args.way c.args.goal c.args.trail (Pair c.args.head c.args.more c.loop-hand.slot)) turn c.read-key.result
 told g c w turn x = c.read-key.ensures.told w (way_at c.args.way c.args.goal c.args.trail (Pair c.args.head c.args.more c.loop-hand.slot)) turn (c.loop-hand.invariant.waits w turn x)

@@ -12,7 +12,7 @@ use Rattle.forest.proofs.straight.walk.to_goal_from.Goals.{After-read-head}
 use Rattle.forest.proofs.straight.walk.to_goal_from.Goals as goal
 
 -- whichever call it is, it has got the head of this node
-told : (g : Over) (c : After-read-head g) (w : Walker (calls g.S.Shape g.M.Machine (names c.args.hand) c.args.hand.number))
+told : (g : Over) (c : After-read-head g) (w : Walker (calls g.S.Shape g.M.Machine g.M.CallMachine.left_dealt (names c.args.hand) c.args.hand.number))
     → WalkerIsAt w c.args.seat.now.me.0.passes c.args.way c.args.goal c.args.first
     → WalkerHasHead w c.read-head.new.seat.me.0.passes c.args.way c.args.goal c.loop-below.place c.read-head.result
 told g c w x = c.read-head.ensures.told w (way_at c.args.way c.args.goal c.loop-below.place.trail c.loop-below.place.at) c.loop-below.place.turns (c.loop-below.invariant.waits w x)

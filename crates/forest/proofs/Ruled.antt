@@ -1,0 +1,70 @@
+-- What keeps the rule of a table, whether its records come back or not.
+use Rattle.std.proofs.Common.{◌≡◌, ◌<◌, ◌≤◌, ℕ, List, [], ◌∷◌, Option, Some, None, refl, sym, ◌∙◌, ap, subst}
+use Rattle.std.proofs.Math.Nat.{lt_of_lt_of_le, mod-eq_of_lt}
+use Rattle.atomic_table.specs.Table.{Me, Allows, Joins, Splits}
+use Rattle.arena.specs.Layout.{IsMap}
+use Rattle.histories.specs.Common.{Layout, Mode, Word, Node, Scx, History, IsWord, IsTold, node, scx, place, table_size, word_after}
+use Rattle.planting.specs.Plantings.{PlantingView}
+use Rattle.slots.specs.Lasting.{slot_word}
+use Rattle.forest.specs.LastingRule.{MayStepOn}
+use Rattle.forest.specs.Ruled.{IsRuled, MayLast, ruled_by}
+use Rattle.forest.specs.Slotted.{in_place, in_turns, plot_at, slots_by, slots_of_table}
+use Rattle.forest.specs.TableRule.{IsPlaceOf, Made, MayStep, first_of_seat, joined_seat, rest_of_seat, seat_view}
+use Rattle.forest.specs.declared.rule.CallStep.{CallStep}
+use Rattle.forest.specs.declared.rule.Site.{Site}
+use Rattle.forest.specs.declared.rule.Turns.{Turns}
+use Rattle.forest.specs.declared.view.SeatedPass.{SeatedPass}
+use Rattle.forest.specs.declared.view.SeatView.{SeatView}
+use Rattle.forest.proofs.Deals.{joins, splits}
+use Rattle.forest.proofs.LastingDeals.{lasting_joins, lasting_splits}
+use Rattle.forest.proofs.LastingMoves.{lasting_moves}
+use Rattle.forest.proofs.Moves.{moves}
+
+module _ (allows : Layout → History → ℕ → Type 0) (site : Site) where
+  pub ruled_splits : (id : ℕ) (v : SeatView) → Splits (IsRuled allows site) id v (rest_of_seat v) (first_of_seat v)
+  ruled_splits = go site.turns
+    where
+      go : (t : Option Turns) (id : ℕ) (v : SeatView) → Splits (ruled_by t allows site) id v (rest_of_seat v) (first_of_seat v)
+      go None = splits allows (plot_at site)
+      go (Some t) = lasting_splits allows (in_turns site.layout t) site.planting
+
+  pub ruled_joins : (id other : ℕ) (v w : SeatView) → Joins (IsRuled allows site) id v other w (joined_seat v w) (seat_view [])
+  ruled_joins = go site.turns
+    where
+      go : (t : Option Turns) (id other : ℕ) (v w : SeatView) → Joins (ruled_by t allows site) id v other w (joined_seat v w) (seat_view [])
+      go None = joins allows (plot_at site)
+      go (Some t) = lasting_joins allows (in_turns site.layout t) site.planting
+
+-- the layout of the table, by which its words lie
+pub table_is : (lay : Layout) (t : Option Turns) → (slots_by lay t).table ≡ lay
+table_is lay None = refl
+table_is lay (Some t) = refl
+
+-- a place is within the table
+pub inside_room : (site : Site) (word : Word) (at words : ℕ) → IsPlaceOf (slots_of_table site) word at → table_size site.layout ≤ words → at < words
+inside_room site word at words there few = lt_of_lt_of_le (subst (λ l. at < table_size l) (table_is site.layout site.turns) there.inside) few
+
+-- the one pass of a seat is the one pass
+first_or : SeatedPass → List SeatedPass → SeatedPass
+first_or q [] = q
+first_or q (p ∷ ps) = p
+
+pub same_pass : (ps : List SeatedPass) (p q : SeatedPass) → ps ≡ p ∷ [] → ps ≡ q ∷ [] → q ≡ p
+same_pass ps p q one other = ap (first_or p) (sym other ∙ one)
+
+-- a word that has a place of its own is where it is
+pub slot_in_place : (lay : Layout) (w : Word) → IsWord lay w → slot_word (in_place lay) w ≡ w
+slot_in_place lay (Node n part) i = ap (λ k. node k part) (mod-eq_of_lt i)
+slot_in_place lay (Scx s part) i = ap (λ k. scx k part) (mod-eq_of_lt i.0)
+
+-- a step of the one pass of a seat, of a word that is there
+module _ (allows : Layout → History → ℕ → Type 0) (mode : Mode) (slots id : ℕ) (me : Me ℕ SeatView) (said : CallStep) (at : ℕ) (f told : ℕ → ℕ) (after : (n : ℕ) → f n ≡ word_after said.step.access n) (tells : (n : ℕ) → IsTold said.step.access n (told n)) (p : SeatedPass) (one : me.0.passes ≡ p ∷ []) (may : MayStep allows said p) where
+  Moves : Site → Type 0
+  Moves site = Allows (IsRuled allows site) slots id me at f (λ n w. Made allows said me.0.passes (told n) w.0.passes × (w.1 ≡ me.1))
+
+  moves_in : (t : Option Turns) (lay : Layout) (planting : PlantingView) → (let site : Site = record { layout = lay; planting = planting; turns = t } in MayLast mode allows site → IsPlaceOf (slots_of_table site) said.step.word at → (IsMap mode → MayStepOn allows said p) → Moves site)
+  moves_in None lay planting last there on = moves allows record { layout = lay; planting = planting } slots id me said at f told there.is_word (there.is_place ∙ ap (place lay) (slot_in_place lay said.step.word there.is_word)) there.inside (λ w i e. there.apart w i e ∙ slot_in_place lay said.step.word there.is_word) after tells p one may
+  moves_in (Some t) lay planting last there on = let so = last t refl in lasting_moves allows (in_turns lay t) planting so.2 so.1 slots id me said at f told there.is_place after tells p one (on so.0)
+
+  pub ruled_moves : (site : Site) → MayLast mode allows site → IsPlaceOf (slots_of_table site) said.step.word at → (IsMap mode → MayStepOn allows said p) → Moves site
+  ruled_moves site = moves_in site.turns site.layout site.planting
