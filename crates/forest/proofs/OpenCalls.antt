@@ -14,6 +14,7 @@ use Rattle.forest.specs.Dictionary.{HasCalledIn, blamed_by_reply}
 use Rattle.forest.specs.OpenInvariant.{IsOpen, next_call, pass_as}
 use Rattle.forest.specs.Passes.{Ground, IsOf, steps_of}
 use Rattle.forest.specs.PassInvariant.{IsPass, pass_view}
+use Rattle.forest.specs.CallSteps.{HasDictLeft}
 use Rattle.forest.specs.Traces.{Stands, seat_steps}
 use Rattle.forest.specs.StraightCalls.{IsSameDictCall, SeatDictEnds}
 use Rattle.forest.proofs.DictCalls.{behind, dict_pass}
@@ -29,7 +30,7 @@ module _ {K V B : Type 0} (valid_key : K → Type 0) (key : K → ℕ) (valid_va
   was = pass_as o.began.value o.seat
 
   ends : SeatDictEnds valid_key key valid_value value_word (next_call o.began.value x.pass.is_pass) o.seat.me.0.passes x.first o.run reply
-  ends = subst (λ turn. Stands (TypedAllows (IsWordOf valid_key key) (IsWordOf valid_value value_word)) (DictWaits (IsWordOf valid_key key) (IsWordOf valid_value value_word)) (IsSameDictCall valid_key key valid_value value_word) (next_call o.began.value x.pass.is_pass) o.seat.me.0.passes x.first (DictAnswers valid_key key valid_value value_word) o.run turn) is x.stands
+  ends = subst (λ turn. Stands (TypedAllows (IsWordOf valid_key key) (IsWordOf valid_value value_word)) (DictWaits (IsWordOf valid_key key) (IsWordOf valid_value value_word)) (IsSameDictCall valid_key key valid_value value_word) HasDictLeft (next_call o.began.value x.pass.is_pass) o.seat.me.0.passes x.first (DictAnswers valid_key key valid_value value_word) o.run turn) is x.stands
 
   module _ (left : Remaining) (blamed : List ℕ) (gives : left ≡ share_of o.run.run) (blames : blamed ≡ blamed_by_reply reply o.blamed) where
     -- the pass that is given back

@@ -17,6 +17,7 @@ use Rattle.forest.specs.Hosts.{Host, HostedStands, HostedWaits}
 use Rattle.forest.specs.OpenInvariant.{IsOpen, next_call}
 use Rattle.forest.specs.Passes.{steps_of}
 use Rattle.forest.specs.StraightCalls.{IsSameDictCall}
+use Rattle.forest.specs.CallSteps.{HasDictLeft}
 use Rattle.forest.specs.TableRule.{history_of}
 use Rattle.forest.specs.Traces.{Stands, seat_steps, shared_nodes, weight, run_at}
 use Rattle.forest.proofs.Advances.{weighs}
@@ -32,7 +33,7 @@ differ e = cc
 module _ {K V : Type 0} (valid_key : K → Type 0) (key : K → ℕ) (valid_value : V → Type 0) (value : V → ℕ) where
   -- where the machine of such a call is
   abbrev pub DictStands : Call → List SeatedPass → DictRun K V → DictRun K V → Turn (Reply K V) → Type 0
-  DictStands c ps first m turn = Stands (TypedAllows (IsWordOf valid_key key) (IsWordOf valid_value value)) (DictWaits (IsWordOf valid_key key) (IsWordOf valid_value value)) (IsSameDictCall valid_key key valid_value value) c ps first (DictAnswers valid_key key valid_value value) m turn
+  DictStands c ps first m turn = Stands (TypedAllows (IsWordOf valid_key key) (IsWordOf valid_value value)) (DictWaits (IsWordOf valid_key key) (IsWordOf valid_value value)) (IsSameDictCall valid_key key valid_value value) HasDictLeft c ps first (DictAnswers valid_key key valid_value value) m turn
 
   -- it is of the same call as the first
   pub same_so_far : (c : Call) (ps : List SeatedPass) (first m : DictRun K V) (turn : Turn (Reply K V)) → DictStands c ps first m turn → IsSameCall valid_key key valid_value value first m

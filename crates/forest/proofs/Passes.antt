@@ -5,6 +5,7 @@ use Rattle.histories.specs.Common.{Layout, Step, Fill, Remaining, first_scx, His
 use Rattle.arena.specs.Share.{whole_share}
 use Rattle.arena.proofs.Lemmas.{ends_self}
 use Rattle.prims.specs.declared.snap.Snap.{Snap}
+use Rattle.forest.specs.declared.memory.PassMemory.{PassMemory}
 use Rattle.forest.specs.declared.view.SeatedPass.{SeatedPass}
 use Rattle.forest.specs.declared.view.SeatView.{SeatView}
 use Rattle.forest.specs.declared.pass.Pass.TheInside.{Inside}
@@ -44,9 +45,9 @@ layout_of e q of = ap (λ (s : PassView). s.layout) e ∙ of.1 ∙ sym (ap (λ (
 abbrev pub call_of : {allows : Layout → History → ℕ → Type 0} {mode : Mode} {T : Type 0} (p : Inside T) → IsPass allows mode p → ℕ → Call
 call_of p x number = record { layout = p.layout; pass = p.number.0; is_pass = x.is_pass; number = number; start = run_at p.seat.me.0.passes }
 
--- a call of it begins where P holds of what it knows
-pub begun_with : {allows : Layout → History → ℕ → Type 0} {mode : Mode} {T : Type 0} (p : Inside T) (x : IsPass allows mode p) (number : ℕ) {P : History → Type 0} → P (run_at p.seat.me.0.passes) → HoldsForCall allows p.seat.me.0.passes (call_of p x number) (λ h. ((call_of p x number).start ≡ h) × P h)
-begun_with p x number holds = record { planting = planting_of p.seat.me.0.passes; known = known_of p.seat.me.0.passes; is = record { memory = memory_of p.seat.me.0.passes; alone = x.seat.alone; since = x.seat.since }; sound = x.sound; so = (refl, holds) }
+-- a call of it begins where P holds of what it knows, and what the call is to have is dealt
+pub begun_with : {allows : Layout → History → ℕ → Type 0} {mode : Mode} {T : Type 0} (p : Inside T) (x : IsPass allows mode p) (number : ℕ) {P : History → Type 0} {left : PassMemory → Type 0} → left (memory_of p.seat.me.0.passes) → P (run_at p.seat.me.0.passes) → HoldsForCall allows left p.seat.me.0.passes (call_of p x number) (λ h. ((call_of p x number).start ≡ h) × P h)
+begun_with p x number dealt holds = record { planting = planting_of p.seat.me.0.passes; known = known_of p.seat.me.0.passes; is = record { memory = memory_of p.seat.me.0.passes; alone = x.seat.alone; since = x.seat.since; there = x.seat.there; left = dealt }; sound = x.sound; so = (refl, holds) }
 
 -- the pass with its seat as it is now
 abbrev pub seated : {T : Type 0} → Inside T → Seat ℕ SeatView → Inside T
@@ -59,7 +60,7 @@ pub record HasOnlyLoaded (allows : Layout → History → ℕ → Type 0) {T : T
   pub goes : CarriesOn allows p.layout p.number.0 (run_at p.seat.me.0.passes) (run_at s.me.0.passes) p.share p.share.next_node p.share.next_scx []
   pub calls : AreOfCall p.number.0 number (run_at p.seat.me.0.passes) (run_at s.me.0.passes)
 
-pub called : {allows : Layout → History → ℕ → Type 0} {mode : Mode} {T : Type 0} (p : Inside T) (x : IsPass allows mode p) (s : Seat ℕ SeatView) (number : ℕ) {M : Type 0} (waits : M → Call → History → Step → Type 0) (same : M → M → Type 0) (first m : M) (A : History → Type 0) → ((m : M) (h : History) (t : Step) → waits m (call_of p x number) h t → t.kind ≢ Fill) → HoldsForCall allows s.me.0.passes (call_of p x number) (λ h. A h × Trace allows waits same (call_of p x number) first m h) → HasOnlyLoaded allows p s number A
+pub called : {allows : Layout → History → ℕ → Type 0} {mode : Mode} {T : Type 0} (p : Inside T) (x : IsPass allows mode p) (s : Seat ℕ SeatView) (number : ℕ) {M : Type 0} (waits : M → Call → History → Step → Type 0) (same : M → M → Type 0) (first m : M) (A : History → Type 0) {left : PassMemory → Type 0} → ((m : M) (h : History) (t : Step) → waits m (call_of p x number) h t → t.kind ≢ Fill) → HoldsForCall allows left s.me.0.passes (call_of p x number) (λ h. A h × Trace allows waits same (call_of p x number) first m h) → HasOnlyLoaded allows p s number A
 called {allows} p x s number waits same first m A fills_not y =
     let run : history_of y.planting y.known ≡ run_at s.me.0.passes = sym (ap run_at y.is.alone) in
     record {

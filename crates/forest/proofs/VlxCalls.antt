@@ -39,7 +39,7 @@ among_at (snap ∷ snaps) n (inr x) = let y = among_at snaps n x in record { at 
 
 module _ {L : Type 0} (list : L → List Snap) {allows : Layout → History → ℕ → Type 0} {mode : Mode} {T : Type 0} (p : Inside T) (x : IsPass allows mode p) (number : ℕ) where
   pub vlx_begins : (snaps : L) → 0 < length (list snaps) → Each (CanUse (pass_view p)) (list snaps) → SeatVlxBegins list allows (call_of p x number) p.seat.me.0.passes snaps
-  vlx_begins snaps some usable = begun_with p x number (vlx_ready_first p.layout p.number.0 number x.is_pass _ (list snaps) 0 refl some (each_at (CanUse (pass_view p)) (list snaps) usable) (all_over p.layout _ p.number.0 p.share _ _ x.rest.share x.rest.over))
+  vlx_begins snaps some usable = begun_with p x number tt (vlx_ready_first p.layout p.number.0 number x.is_pass _ (list snaps) 0 refl some (each_at (CanUse (pass_view p)) (list snaps) usable) (all_over p.layout _ p.number.0 p.share _ _ x.rest.share x.rest.over))
 
   abbrev pub Looked : L → Vlx → History → Type 0
   Looked snaps a h = VlxAnswers (list snaps) (call_of p x number) h a

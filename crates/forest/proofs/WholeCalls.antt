@@ -13,6 +13,7 @@ use Rattle.dict.specs.Typed.{TypedAllows}
 use Rattle.dict.specs.Words.{IsWordOf}
 use Rattle.forest.specs.declared.pass.Pass.TheInside.{Inside}
 use Rattle.forest.specs.declared.view.SeatView.{SeatView}
+use Rattle.forest.specs.CallSteps.{HasDictLeft}
 use Rattle.forest.specs.Dictionary.{HasCalledIn, HasSpentAtMost, IsRefusalOf, IsToldOf, blamed_by_reply}
 use Rattle.forest.specs.Passes.{Ground, IsOf, PassView, taken_of}
 use Rattle.forest.specs.PassInvariant.{IsPass, pass_view}
@@ -41,7 +42,7 @@ module _ {K V : Type 0} (valid_key : K → Type 0) (key : K → ℕ) (valid_valu
 
     -- the machine has got from the first to the last in this call
     abbrev pub IsOver : Type 0
-    IsOver = HoldsForCall allows s.me.0.passes call_made (λ h. Ended h × Trace allows (DictWaits (IsWordOf valid_key key) (IsWordOf valid_value value_word)) (IsSameDictCall valid_key key valid_value value_word) call_made first m h)
+    IsOver = HoldsForCall allows (HasDictLeft first) s.me.0.passes call_made (λ h. Ended h × Trace allows (DictWaits (IsWordOf valid_key key) (IsWordOf valid_value value_word)) (IsSameDictCall valid_key key valid_value value_word) call_made first m h)
 
     module _ (over : IsOver) where
       pub ended : HasEnded allows p s number Ended

@@ -21,7 +21,7 @@ pub data Trace {M : Type 0} (allows : Layout → History → ℕ → Type 0) (wa
   goes_on : {m : M} {h : History} (old : M) → same old m → Trace allows waits same c first old h → Trace allows waits same c first m h
 
 -- a pass of this number, which remembers so much, is there, and all of its names are dealt
-pub record IsThere (n : ℕ) (lay : Layout) (memory : PassMemory) : Type 0 where
+pub record HasAllDealt (n : ℕ) (lay : Layout) (memory : PassMemory) : Type 0 where
   pub here : memory.away ≡ false
   pub dealt : dealt_to memory ≡ share_end (whole_share lay n)
 
@@ -31,7 +31,7 @@ pub record IsInCall (left_dealt : PassMemory → Type 0) (ps : List SeatedPass) 
   pub memory : PassMemory
   pub alone : ps ≡ seated_pass c.pass c.layout planting memory known ∷ []
   pub since : Extends c.start (history_of planting memory.rested)
-  pub there : IsThere c.pass c.layout memory
+  pub there : HasAllDealt c.pass c.layout memory
   pub left : left_dealt memory
 
 -- so it is in the call, and P holds of the run that the pass knows
@@ -111,7 +111,7 @@ rest_at ps = history_of (planting_of ps) (memory_of ps).rested
 pub record IsSeated (n : ℕ) (lay : Layout) (ps : List SeatedPass) : Type 0 where
   pub alone : ps ≡ seated_pass n lay (planting_of ps) (memory_of ps) (known_of ps) ∷ []
   pub since : Extends (run_at ps) (rest_at ps)
-  pub there : IsThere n lay (memory_of ps)
+  pub there : HasAllDealt n lay (memory_of ps)
 
 -- a seat's one pass knows these rows, in a table that is planted so
 abbrev pub KnowsAs : List SeatedPass → PlantingView → List Row → Type 0

@@ -27,7 +27,8 @@ pub trait CallMachine<S: Shape>: Machine<S> {
     ghost keeps_left: { (old now : Self) (memory : PassMemory) → Self.same old now → left_dealt old memory → left_dealt now memory };
 
     /// Where it does, each step for which the machine waits in a map fills only what is dealt.
-    ghost dealt: { (m : Self) (c : Call) (h : History) (s : Step) (memory : PassMemory) → IsMap S.mode → Self.waits m c h s → left_dealt m memory → FillsDealt memory s };
+    ghost dealt: { (m : Self) (c : Call) (h : History) (s : Step) (memory : PassMemory)
+        → IsMap S.mode → Self.waits m c h s → left_dealt m memory → FillsDealt memory s };
 }
 
 /// A shape of tables that hold no map.

@@ -3,7 +3,7 @@ use Rattle.histories.specs.Common.{Layout, Opened, IsRun}
 use Rattle.planting.specs.Plantings.{PlantingView, opening_for}
 use Rattle.forest.specs.declared.rule.Plot.{Plot}
 use Rattle.forest.specs.declared.view.SeatedPass.{SeatedPass}
-use Rattle.forest.specs.TableRule.{new_passes, no_memory, rest_of, first_of, seated_pass}
+use Rattle.forest.specs.TableRule.{all_dealt, new_passes, rest_of, first_of, seated_pass}
 use Rattle.forest.specs.Traces.{planting_of}
 use Rattle.forest.specs.Passes.{PassView, ground, new_pass}
 use Rattle.prims.proofs.Lemmas.{get_more}
@@ -11,13 +11,13 @@ use Rattle.forest.proofs.Openings.{first_left, rest_left}
 use Rattle.forest.proofs.forest.pass_all.Goals as goal
 
 -- what the next seat knows
-dealt : (plot : Plot) (lay : Layout) (n : ℕ) (own : List SeatedPass) → plot.layout ≡ lay → own ≡ first_of (new_passes plot n (lay.passes - n)) → n < lay.passes → own ≡ seated_pass n lay plot.planting no_memory [] ∷ []
-dealt plot lay n own same is inside = subst (λ (l : Layout). own ≡ seated_pass n l plot.planting no_memory [] ∷ []) same (is ∙ first_left plot n lay.passes inside)
+dealt : (plot : Plot) (lay : Layout) (n : ℕ) (own : List SeatedPass) → plot.layout ≡ lay → own ≡ first_of (new_passes plot n (lay.passes - n)) → n < lay.passes → own ≡ seated_pass n lay plot.planting (all_dealt lay n) [] ∷ []
+dealt plot lay n own same is inside = subst (λ (l : Layout). own ≡ seated_pass n l plot.planting (all_dealt l n) [] ∷ []) same (is ∙ first_left plot n lay.passes inside)
 
 pub new-requires-clause-seat : goal.new-requires-clause-seat
 new-requires-clause-seat g c =
     let own = dealt c.args.words.now.table.shared.key c.args.layout.now c.loop-number.number c.deal-own.result.me.0.passes c.requires.table.0.1 (c.deal-own.ensures.passes.1 ∙ ap first_of c.loop-number.invariant.left) (search rules) in
-    (subst (λ (ps : List SeatedPass). c.deal-own.result.me.0.passes ≡ seated_pass c.loop-number.number c.args.layout.now (planting_of ps) no_memory [] ∷ []) (sym own) own, c.deal-own.ensures.bare.1)
+    (subst (λ (ps : List SeatedPass). c.deal-own.result.me.0.passes ≡ seated_pass c.loop-number.number c.args.layout.now (planting_of ps) (all_dealt c.args.layout.now c.loop-number.number) [] ∷ []) (sym own) own, c.deal-own.ensures.bare.1)
 
 pub new-requires-clause-run : goal.new-requires-clause-run
 new-requires-clause-run g c =

@@ -1,10 +1,10 @@
-use Rattle.std.proofs.Common.{◌≡◌, [], sym, ap, subst}
+use Rattle.std.proofs.Common.{◌≡◌, [], refl, sym, ap, subst}
 use Rattle.arena.specs.Share.{whole_share}
 use Rattle.arena.proofs.Lemmas.{ends_self}
 use Rattle.histories.specs.Common.{Opened, IsRun}
 use Rattle.planting.specs.Plantings.{opening_for}
 use Rattle.forest.specs.Shares.{IsBetweenCalls}
-use Rattle.forest.specs.TableRule.{history_of, no_memory}
+use Rattle.forest.specs.TableRule.{all_dealt, history_of}
 use Rattle.forest.specs.Traces.{known_of, planting_of, run_at}
 use Rattle.forest.proofs.Advances.{seat_back}
 use Rattle.forest.proofs.Blames.{blamed_nobody}
@@ -13,7 +13,7 @@ use Rattle.forest.proofs.pass.Pass.new.Goals as goal
 
 pub invariant_of-result : goal.invariant_of-result
 invariant_of-result g c = record {
-  seat = seat_back c.args.seat.me.0.passes c.args.number.0 c.args.layout.now (planting_of c.args.seat.me.0.passes) no_memory [] c.requires.seat.0 (ends_self (history_of (planting_of c.args.seat.me.0.passes) []));
+  seat = seat_back c.args.seat.me.0.passes c.args.number.0 c.args.layout.now (planting_of c.args.seat.me.0.passes) (all_dealt c.args.layout.now c.args.number.0) [] c.requires.seat.0 (ends_self (history_of (planting_of c.args.seat.me.0.passes) [])) record { here = refl; dealt = refl };
   bare = c.requires.seat.1;
   is_mode = c.requires.mode;
   is_pass = c.requires.pass;
