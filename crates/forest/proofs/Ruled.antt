@@ -1,16 +1,16 @@
 -- What keeps the rule of a table, whether its records come back or not.
 use Rattle.std.proofs.Common.{◌≡◌, ◌<◌, ◌≤◌, ℕ, List, [], ◌∷◌, Option, Some, None, refl, sym, ◌∙◌, ap, subst}
-use Rattle.std.proofs.Math.Nat.{lt_of_lt_of_le, mod-eq_of_lt}
-use Rattle.atomic_table.specs.Table.{Me, Allows, Joins, Splits}
+use Rattle.std.proofs.Math.Nat.{lt_of_lt_of_le}
+use Rattle.atomic_table.specs.Table.{Me, Allows, Joins, Splits, State}
 use Rattle.arena.specs.Layout.{IsMap}
-use Rattle.histories.specs.Common.{Layout, Mode, Word, Node, Scx, History, IsWord, IsTold, node, scx, place, table_size, word_after}
+use Rattle.histories.specs.Common.{Layout, Mode, Word, History, IsTold, place, table_size, word_after}
 use Rattle.planting.specs.Plantings.{PlantingView}
-use Rattle.slots.specs.Lasting.{slot_word}
 use Rattle.forest.specs.LastingRule.{MayStepOn}
-use Rattle.forest.specs.Ruled.{IsRuled, MayLast, ruled_by}
+use Rattle.forest.specs.Ruled.{IsRuled, MayLast, first_by, first_of_table, ruled_by}
 use Rattle.forest.specs.Slotted.{in_place, in_turns, plot_at, slots_by, slots_of_table}
-use Rattle.forest.specs.TableRule.{IsPlaceOf, Made, MayStep, first_of_seat, joined_seat, rest_of_seat, seat_view}
+use Rattle.forest.specs.TableRule.{IsPlaceOf, Made, MayStep, TableIsLawful, first_of_seat, joined_seat, new_passes, rest_of_seat, seat_view}
 use Rattle.forest.specs.declared.rule.CallStep.{CallStep}
+use Rattle.forest.specs.declared.rule.Plot.{Plot}
 use Rattle.forest.specs.declared.rule.Site.{Site}
 use Rattle.forest.specs.declared.rule.Turns.{Turns}
 use Rattle.forest.specs.declared.view.SeatedPass.{SeatedPass}
@@ -19,6 +19,7 @@ use Rattle.forest.proofs.Deals.{joins, splits}
 use Rattle.forest.proofs.LastingDeals.{lasting_joins, lasting_splits}
 use Rattle.forest.proofs.LastingMoves.{lasting_moves}
 use Rattle.forest.proofs.Moves.{moves}
+use Rattle.forest.proofs.Slotted.{slot_in_place}
 
 module _ (allows : Layout → History → ℕ → Type 0) (site : Site) where
   pub ruled_splits : (id : ℕ) (v : SeatView) → Splits (IsRuled allows site) id v (rest_of_seat v) (first_of_seat v)
@@ -34,6 +35,29 @@ module _ (allows : Layout → History → ℕ → Type 0) (site : Site) where
       go : (t : Option Turns) (id other : ℕ) (v w : SeatView) → Joins (ruled_by t allows site) id v other w (joined_seat v w) (seat_view [])
       go None = joins allows (plot_at site)
       go (Some t) = lasting_joins allows (in_turns site.layout t) site.planting
+
+-- a table whose records have places of their own
+module _ (allows : Layout → History → ℕ → Type 0) (site : Site) where
+  -- what it is told as it is made, but for how its slots are taken again
+  with_turns : Option Turns → Site
+  with_turns t = record { layout = site.layout; planting = site.planting; turns = t }
+
+  abbrev pub plain_plot : Plot
+  plain_plot = record { layout = site.layout; planting = site.planting }
+
+  -- what holds of the rule of its words holds of its rule, and the other way round
+  pub ruled_to : (P : (State ℕ SeatView → Type 0) → Type 0) → site.turns ≡ None → P (TableIsLawful allows plain_plot) → P (IsRuled allows site)
+  unfolding with_turns
+  ruled_to P once = subst (λ (t : Option Turns). P (ruled_by t allows (with_turns t))) (sym once)
+
+  pub ruled_from : (P : (State ℕ SeatView → Type 0) → Type 0) → site.turns ≡ None → P (IsRuled allows site) → P (TableIsLawful allows plain_plot)
+  unfolding with_turns
+  ruled_from P once = subst (λ (t : Option Turns). P (ruled_by t allows (with_turns t))) once
+
+  -- as it opens, its first seat has all passes, which have all of their names dealt
+  pub first_once : site.turns ≡ None → first_of_table site ≡ seat_view (new_passes plain_plot 0 site.layout.passes)
+  unfolding with_turns
+  first_once once = subst (λ (t : Option Turns). first_by t (with_turns t) ≡ seat_view (new_passes plain_plot 0 site.layout.passes)) (sym once) refl
 
 -- the layout of the table, by which its words lie
 pub table_is : (lay : Layout) (t : Option Turns) → (slots_by lay t).table ≡ lay
@@ -51,11 +75,6 @@ first_or q (p ∷ ps) = p
 
 pub same_pass : (ps : List SeatedPass) (p q : SeatedPass) → ps ≡ p ∷ [] → ps ≡ q ∷ [] → q ≡ p
 same_pass ps p q one other = ap (first_or p) (sym other ∙ one)
-
--- a word that has a place of its own is where it is
-pub slot_in_place : (lay : Layout) (w : Word) → IsWord lay w → slot_word (in_place lay) w ≡ w
-slot_in_place lay (Node n part) i = ap (λ k. node k part) (mod-eq_of_lt i)
-slot_in_place lay (Scx s part) i = ap (λ k. scx k part) (mod-eq_of_lt i.0)
 
 -- a step of the one pass of a seat, of a word that is there
 module _ (allows : Layout → History → ℕ → Type 0) (mode : Mode) (slots id : ℕ) (me : Me ℕ SeatView) (said : CallStep) (at : ℕ) (f told : ℕ → ℕ) (after : (n : ℕ) → f n ≡ word_after said.step.access n) (tells : (n : ℕ) → IsTold said.step.access n (told n)) (p : SeatedPass) (one : me.0.passes ≡ p ∷ []) (may : MayStep allows said p) where
