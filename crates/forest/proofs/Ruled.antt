@@ -54,6 +54,9 @@ module _ (allows : Layout → History → ℕ → Type 0) (site : Site) where
   unfolding with_turns
   ruled_from P once = subst (λ (t : Option Turns). P (ruled_by t allows (with_turns t))) once
 
+  pub ruled_allows : (slots id : ℕ) (me : Me ℕ SeatView) (at : ℕ) (f : ℕ → ℕ) (then : ℕ → Me ℕ SeatView → Type 0) → site.turns ≡ None → Allows (TableIsLawful allows plain_plot) slots id me at f then → Allows (IsRuled allows site) slots id me at f then
+  ruled_allows slots id me at f then = ruled_to (λ holds. Allows holds slots id me at f then)
+
   -- as it opens, its first seat has all passes, which have all of their names dealt
   pub first_once : site.turns ≡ None → first_of_table site ≡ seat_view (new_passes plain_plot 0 site.layout.passes)
   unfolding with_turns
@@ -63,6 +66,10 @@ module _ (allows : Layout → History → ℕ → Type 0) (site : Site) where
 pub table_is : (lay : Layout) (t : Option Turns) → (slots_by lay t).table ≡ lay
 table_is lay None = refl
 table_is lay (Some t) = refl
+
+-- of a table whose records have places of their own nothing is asked
+pub never_lasts : (mode : Mode) (allows : Layout → History → ℕ → Type 0) (site : Site) → site.turns ≡ None → MayLast mode allows site
+never_lasts mode allows site once t e = absurd (let y : Some t ≡ None = sym e ∙ once in cc)
 
 -- a place is within the table
 pub inside_room : (site : Site) (word : Word) (at words : ℕ) → IsPlaceOf (slots_of_table site) word at → table_size site.layout ≤ words → at < words
@@ -74,11 +81,12 @@ first_or q [] = q
 first_or q (p ∷ ps) = p
 
 pub same_pass : (ps : List SeatedPass) (p q : SeatedPass) → ps ≡ p ∷ [] → ps ≡ q ∷ [] → q ≡ p
+unfolding first_or
 same_pass ps p q one other = ap (first_or p) (sym other ∙ one)
 
 -- a step of the one pass of a seat, of a word that is there
 module _ (allows : Layout → History → ℕ → Type 0) (mode : Mode) (slots id : ℕ) (me : Me ℕ SeatView) (said : CallStep) (at : ℕ) (f told : ℕ → ℕ) (after : (n : ℕ) → f n ≡ word_after said.step.access n) (tells : (n : ℕ) → IsTold said.step.access n (told n)) (p : SeatedPass) (one : me.0.passes ≡ p ∷ []) (may : MayStep allows said p) where
-  Moves : Site → Type 0
+  abbrev pub Moves : Site → Type 0
   Moves site = Allows (IsRuled allows site) slots id me at f (λ n w. Made allows said me.0.passes (told n) w.0.passes × (w.1 ≡ me.1))
 
   moves_in : (t : Option Turns) (lay : Layout) (planting : PlantingView) → (let site : Site = record { layout = lay; planting = planting; turns = t } in MayLast mode allows site → IsPlaceOf (slots_of_table site) said.step.word at → (IsMap mode → MayStepOn allows said p) → Moves site)

@@ -26,7 +26,6 @@ use std::marker::Brand;
 #[derive(Drop)]
 pub(crate) struct Words<S: Shape> {
     table: Table<u8, SeatView, Site, Lawful<S>, Global>,
-    ghost may_last: { MayLast S.mode S.allows table.shared.key },
 }
 
 impl<S: Shape> Words<S> {
@@ -64,6 +63,7 @@ impl<S: Shape> Words<S> {
         requires said { said.now ≡ J.said }
         requires table { (seat.old.table_id ≡ self.now.table.shared.table_id)
             × (table_size self.now.table.shared.key.layout ≤ self.now.table.shared.table_id.words) }
+        requires last { MayLast S.mode S.allows self.now.table.shared.key }
         requires place { IsPlaceOf (slots_of_table self.now.table.shared.key) said.now.step.word at }
         requires may { (p : SeatedPass) × (seat.old.me.0.passes ≡ p ∷ [])
             × MayStep S.allows said.now p }

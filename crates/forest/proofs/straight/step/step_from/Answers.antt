@@ -5,6 +5,7 @@ use Rattle.forest.specs.TableRule.{past_of, row}
 use Rattle.forest.specs.Traces.{Trace, known_of, others, makes}
 use Rattle.forest.proofs.Advances.{called_so, may, may_in_map, word_of, told, one_step}
 use Rattle.forest.proofs.Calls.{course_keeps}
+use Rattle.forest.proofs.Ruled.{never_lasts}
 use Rattle.forest.proofs.straight.step.step_from.Goals as goal
 
 pub place_from-at-requires-clause-word : goal.place_from-at-requires-clause-word
@@ -13,6 +14,9 @@ place_from-at-requires-clause-word g c = let w = c.requires.waits in let law = g
 
 pub make-requires-clause-table : goal.make-requires-clause-table
 make-requires-clause-table g c = let table = c.args.hand.of_table in (c.requires.table, le_of_eq (ap table_size table.1 ∙ sym table.0))
+
+pub make-requires-clause-last : goal.make-requires-clause-last
+make-requires-clause-last g c = never_lasts g.S.Shape.mode g.S.Shape.allows c.args.hand.words.now.table.shared.key c.args.hand.of_table.2
 
 pub make-requires-clause-may : goal.make-requires-clause-may
 make-requires-clause-may g c = let w = c.requires.waits in let law = g.met.M.Machine in
