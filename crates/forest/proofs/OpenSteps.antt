@@ -84,7 +84,7 @@ module _ {K V : Type 0} (valid_key : K → Type 0) (key : K → ℕ) (valid_valu
         -- it stays a call that is held open
         pub stays_open : (over : Bool) → (over ≡ true → MatchTurn turn (λ _. ⊥) (λ _. Unit {0})) → (over ≡ false → MatchTurn turn (λ _. Unit {0}) (λ _. ⊥)) → IsOpen valid_key key valid_value value trie (record o { seat = s; run = m; turn = turn; over = over })
         stays_open over ends goes = record {
-          pass = record { seat = x.pass.seat; bare = refl; is_mode = x.pass.is_mode; is_pass = x.pass.is_pass; sound = x.pass.sound; rest = x.pass.rest; blamed = x.pass.blamed };
+          pass = record { seat = x.pass.seat; bare = refl; is_mode = x.pass.is_mode; is_pass = x.pass.is_pass; sound = x.pass.sound; rest = x.pass.rest; dealt = x.pass.dealt; blamed = x.pass.blamed };
           table = table ∙ x.table;
           bare = bare ∙ x.bare;
           kept = x.kept;
