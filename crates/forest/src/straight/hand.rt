@@ -71,7 +71,7 @@ impl<'a, S: Shape> Hand<'a, S> {
     pub(crate) fn place_from(self, start: usize, word: Word) -> usize
         requires word { IsWord (names self) word }
         requires start { start ≡ word_begins (hand_slots self) word }
-        ensures { IsPlaceOf self.entry.layout.now word result }
+        ensures { IsPlaceOf (hand_slots self.entry).table word result }
     {
         self.layout.place_from(start, word)
     }

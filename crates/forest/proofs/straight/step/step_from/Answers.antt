@@ -1,6 +1,6 @@
-use Rattle.std.proofs.Common.{Some, refl, sym, ap, subst}
+use Rattle.std.proofs.Common.{Some, refl, ap, subst}
 use Rattle.histories.specs.Common.{Layout, IsWord, History}
-use Rattle.forest.specs.TableRule.{IsPlaceOf, past_of, row}
+use Rattle.forest.specs.TableRule.{past_of, row}
 use Rattle.forest.specs.Traces.{Trace, known_of, others, makes}
 use Rattle.forest.proofs.Advances.{called_so, may, may_in_map, word_of, told, one_step}
 use Rattle.forest.proofs.Calls.{course_keeps}
@@ -9,15 +9,6 @@ use Rattle.forest.proofs.straight.step.step_from.Goals as goal
 pub place_from-at-requires-clause-word : goal.place_from-at-requires-clause-word
 place_from-at-requires-clause-word g c = let w = c.requires.waits in let law = g.met.M.Machine in
     subst (λ (l : Layout). IsWord l c.args.step.word) w.3.0 (word_of g.S.Shape.allows w.0 record { call = c.args.hand.number; step = c.args.step } w.3.1 _ _ (λ h. law.lawful w.2 w.0 h c.args.step) (called_so w.4))
-
-pub make-requires-clause-place : goal.make-requires-clause-place
-make-requires-clause-place g c = let w = c.requires.waits in let law = g.met.M.Machine in
-    subst (λ (l : Layout). IsPlaceOf l c.args.step.word c.place_from-at.result) (sym c.args.hand.of_table.1) record {
-      is_word = subst (λ (l : Layout). IsWord l c.args.step.word) w.3.0 (word_of g.S.Shape.allows w.0 record { call = c.args.hand.number; step = c.args.step } w.3.1 _ _ (λ h. law.lawful w.2 w.0 h c.args.step) (called_so w.4));
-      is_place = c.place_from-at.ensures.place;
-      inside = c.place_from-at.ensures.inside;
-      apart = c.place_from-at.ensures.apart;
-    }
 
 pub make-requires-clause-may : goal.make-requires-clause-may
 make-requires-clause-may g c = let w = c.requires.waits in let law = g.met.M.Machine in
