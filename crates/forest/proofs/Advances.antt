@@ -1,5 +1,5 @@
 -- What a machine's laws make of a step under the rule.
-use Rattle.std.proofs.Common.{◌≡◌, ◌≢◌, ◌<◌, ◌≤◌, ℕ, suc, List, [], ◌∷◌, ◌++◌, length, inr, sym, ap, refl, ◌∙◌, subst, eq-eqb, ne_eqb, arith}
+use Rattle.std.proofs.Common.{◌≡◌, ◌≢◌, ◌<◌, ◌≤◌, ℕ, suc, false, List, [], ◌∷◌, ◌++◌, length, inr, sym, ap, refl, ◌∙◌, subst, eq-eqb, ne_eqb, arith}
 use Rattle.histories.specs.Common.{Layout, Row, Step, Turn, Ask, Done, IsWord, History, ◌⊳◌, Extends, value, Lawful, Call, IsRun, IsTold, MatchTurn, row_of, Shaped, taken_nodes}
 use Rattle.arena.proofs.Lemmas.{ends_self, ends_trans, taken_few}
 use Rattle.histories.proofs.Lemmas.{lawful_row}
@@ -11,7 +11,7 @@ use Rattle.forest.specs.declared.rule.CallStep.{CallStep}
 use Rattle.forest.specs.declared.memory.PassMemory.{PassMemory}
 use Rattle.forest.specs.declared.view.SeatedPass.{SeatedPass}
 use Rattle.forest.specs.TableRule.{history_of, past_of, seated_pass, ByOthers, MayStep, Made, row}
-use Rattle.forest.specs.Traces.{HoldsForCall, IsInCall, IsSeated, HasAllDealt, known_of, planting_of, rest_at, memory_of, rows_of, run_at, seat_steps, shared_nodes, weight}
+use Rattle.forest.specs.Traces.{HoldsForCall, IsInCall, IsSeated, known_of, planting_of, rest_at, memory_of, rows_of, run_at, seat_steps, shared_nodes, weight}
 
 -- a run without its last row is a run
 pub run_before : (allows : Layout → History → ℕ → Type 0) (lay : Layout) (h : History) (r : Row) → IsRun allows lay (r ⊳ h) → IsRun allows lay h
@@ -24,11 +24,11 @@ keeps_all allows lay c P planting keeps [] known by run x = x
 keeps_all allows lay c P planting keeps (r ∷ rs) known by run x = keeps (history_of planting (rs ++ known)) r run by.0 (keeps_all allows lay c P planting keeps rs known by.1 (run_before allows lay (history_of planting (rs ++ known)) r run) x)
 
 -- the one pass of a seat, by what it knows
-pub seat_back : (ps : List SeatedPass) (n : ℕ) (lay : Layout) (planting : PlantingView) (memory : PassMemory) (known : List Row) → ps ≡ seated_pass n lay planting memory known ∷ [] → Extends (history_of planting known) (history_of planting memory.rested) → HasAllDealt n lay memory → IsSeated n lay ps
+pub seat_back : (ps : List SeatedPass) (n : ℕ) (lay : Layout) (planting : PlantingView) (memory : PassMemory) (known : List Row) → ps ≡ seated_pass n lay planting memory known ∷ [] → Extends (history_of planting known) (history_of planting memory.rested) → memory.away ≡ false → IsSeated n lay ps
 seat_back ps n lay planting memory known e since there = record {
   alone = subst (λ (qs : List SeatedPass). ps ≡ seated_pass n lay (planting_of qs) (memory_of qs) (known_of qs) ∷ []) (sym e) e;
   since = subst (λ (qs : List SeatedPass). Extends (run_at qs) (rest_at qs)) (sym e) since;
-  there = subst (λ (qs : List SeatedPass). HasAllDealt n lay (memory_of qs)) (sym e) there;
+  there = subst (λ (qs : List SeatedPass). (memory_of qs).away ≡ false) (sym e) there;
 }
 
 -- each pass has rested last after all rows of which it knew, or before
@@ -83,7 +83,7 @@ module _ (allows : Layout → History → ℕ → Type 0) {left : PassMemory →
         since = x.is.since;
         step = λ rows by run. let h : History = history_of x.planting (rows ++ x.known) in subst (λ r. IsMapStep c h r) (row_is h) (steps h (keeps_all allows c.layout c.pass waits x.planting keeps rows x.known by run x.so));
       };
-      there = x.is.there.here;
+      there = x.is.there;
       dealt = dealt;
     },
   )

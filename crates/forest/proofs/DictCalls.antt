@@ -34,8 +34,8 @@ use Rattle.forest.specs.Dictionary.{IsToldOf, IsRefusalOf, HasSpentAtMost, blame
 use Rattle.forest.specs.StraightCalls.{IsFreshCall, IsSameDictCall, SeatCallBegins}
 use Rattle.forest.specs.Passes.{PassView, HasBlamed, HasGoneOn, run_of, taken_of}
 use Rattle.forest.specs.PassInvariant.{pass_view, IsPass}
-use Rattle.forest.specs.Shares.{IsBetweenCalls}
-use Rattle.forest.specs.Traces.{CallBegins, HoldsForCall, Trace, known_of, seat_steps, planting_of}
+use Rattle.forest.specs.Shares.{EndsAsDealt, IsBetweenCalls}
+use Rattle.forest.specs.Traces.{CallBegins, HoldsForCall, Trace, known_of, memory_of, seat_steps, planting_of}
 use Rattle.forest.proofs.Blames.{blamed_later, blamed_on_map}
 use Rattle.forest.proofs.Versions.{told_says, lost_says, full_says, nothing_says}
 use Rattle.forest.proofs.Calls.{course_keeps}
@@ -86,7 +86,7 @@ module _ {K V : Type 0} (valid_key : K → Type 0) (key : K → ℕ) (valid_valu
 
   -- a call that has not begun may begin, with the pass's share
   pub dict_starts : {trie : Bool} {T : Type 0} (p : Inside T) (x : IsPass allows (map_mode trie) p) (m : DictRun K V) → trie_in m.run ≡ trie → IsTypedCall keys values (call_in m.run) → IsUnbegun m.run m.tries (taken_of (pass_view p)) → IsFewCall (call_in m.run) → share_of m.run ≡ p.share → CallBegins allows (DictIsReady keys values) HasDictLeft (call_of p x (taken_of (pass_view p))) p.seat.me.0.passes m
-  dict_starts p x m tree typed unbegun few share = begun_with p x (taken_of (pass_view p)) (ap share_end share ∙ x.rest.upper ∙ sym x.seat.there.dealt) (dict_begins keys values m (call_of p x (taken_of (pass_view p))) (x.is_mode ∙ ap map_mode (sym tree)) x.sound typed unbegun few (rw share rests))
+  dict_starts {trie} p x m tree typed unbegun few share = begun_with p x (taken_of (pass_view p)) (ap share_end share ∙ x.dealt (dict_mode p.layout.mode trie x.is_mode)) (dict_begins keys values m (call_of p x (taken_of (pass_view p))) (x.is_mode ∙ ap map_mode (sym tree)) x.sound typed unbegun few (rw share rests))
     where
       rests : RestsWith (call_of p x (taken_of (pass_view p))) (call_of p x (taken_of (pass_view p))).start p.share
       rests = record { share = x.rest.share; over = all_over p.layout _ p.number.0 p.share p.share.next_node p.share.next_scx x.rest.share x.rest.over }
@@ -163,8 +163,8 @@ module _ {K V : Type 0} (valid_key : K → Type 0) (key : K → ℕ) (valid_valu
               blamed_on_map (pass_view p) (pass_view (left_with p x s called Answered (share_of m.run) (u.0 ∷ p.blamed))) n.0 u.0 (dict_mode p.layout.mode trie x.is_mode) refl refl refl y.sound.lawful y.since way.others way.in_the_way way.over_or_new x.blamed
 
       -- it is a pass again
-      pub dict_pass : s.me.1 ≡ p.seat.me.1 → IsPass allows (map_mode trie) behind
-      dict_pass bare = ended_pass p x s called Answered (share_of m.run) (blamed_by_reply reply p.blamed) bare y rest dict_blames
+      pub dict_pass : EndsAsDealt (share_of m.run) (memory_of s.me.0.passes) → s.me.1 ≡ p.seat.me.1 → IsPass allows (map_mode trie) behind
+      dict_pass dealt bare = ended_pass p x s called Answered (share_of m.run) (blamed_by_reply reply p.blamed) bare y rest (λ map. dealt) dict_blames
 
       -- and its run is extended
       pub dict_goes_on : (few most : ℕ) → s.table_id ≡ p.seat.table_id → seat_steps s.me.0.passes ≤ seat_steps p.seat.me.0.passes + few → few ≤ most → HasGoneOn allows (pass_view p) now called most (blamed_by_reply reply p.blamed)

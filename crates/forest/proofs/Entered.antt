@@ -2,6 +2,7 @@
 -- both are known of the call's end alone, without its course.
 use Rattle.std.proofs.Common.{◌≡◌, ◌≢◌, ◌≤◌, ◌+◌, ℕ, inl, inr, List, ◌∷◌, Option, refl, sym, ◌∙◌, ap, subst, arith}
 use Rattle.atomic_table.specs.declared.shared.Seat.{Seat}
+use Rattle.arena.specs.Layout.{IsMap}
 use Rattle.histories.specs.Common.{Layout, Mode, Row, Step, Remaining, History, Opened, ◌⊳◌, Extends, IsOwnScx, HasWon, IsWin, Lawful, log, owner, Call, IsRun, descriptor}
 use Rattle.arena.proofs.Lemmas.{ends_self, ends_trans, owner_is}
 use Rattle.histories.proofs.Lemmas.{IsOwned, Logs, UpdateWins, entry_of, facts_before, lawful_row, lawful_since, lawful_tail, logs, same as log_same, update_about, update_is_first, update_win, wins as log_wins, won_since}
@@ -14,8 +15,8 @@ use Rattle.forest.specs.declared.memory.PassMemory.{PassMemory}
 use Rattle.forest.specs.declared.view.SeatView.{SeatView}
 use Rattle.forest.specs.declared.pass.Pass.TheInside.{Inside}
 use Rattle.forest.specs.TableRule.{history_of}
-use Rattle.forest.specs.Traces.{IsSeated, Trace, HoldsForCall, seat_steps, run_at}
-use Rattle.forest.specs.Shares.{IsBetweenCalls, entries_of}
+use Rattle.forest.specs.Traces.{IsSeated, Trace, HoldsForCall, memory_of, seat_steps, run_at}
+use Rattle.forest.specs.Shares.{EndsAsDealt, IsBetweenCalls, entries_of}
 use Rattle.forest.specs.Passes.{AreOfCall, HasBlamed, HasGoneOn, IsLaterView, run_of}
 use Rattle.forest.specs.PassInvariant.{pass_view, IsPass}
 use Rattle.forest.proofs.Frames.{entry_mine, entry_others}
@@ -107,8 +108,8 @@ module _ {allows : Layout → History → ℕ → Type 0} {mode : Mode} {T : Typ
   left_with = record p { share = left; seat = s; blamed = blamed }
 
   -- it is a pass again
-  pub ended_pass : s.me.1 ≡ p.seat.me.1 → HasEnded allows p s number A → IsBetweenCalls p.layout p.number.0 (run_of (pass_view left_with)) left → HasBlamed (pass_view left_with) → IsPass allows mode left_with
-  ended_pass bare y rest blames = record { seat = y.seat; bare = bare ∙ x.bare; is_mode = x.is_mode; is_pass = x.is_pass; sound = y.sound; rest = rest; blamed = blames }
+  pub ended_pass : s.me.1 ≡ p.seat.me.1 → HasEnded allows p s number A → IsBetweenCalls p.layout p.number.0 (run_of (pass_view left_with)) left → (IsMap p.layout.mode → EndsAsDealt left (memory_of s.me.0.passes)) → HasBlamed (pass_view left_with) → IsPass allows mode left_with
+  ended_pass bare y rest dealt blames = record { seat = y.seat; bare = bare ∙ x.bare; is_mode = x.is_mode; is_pass = x.is_pass; sound = y.sound; rest = rest; dealt = dealt; blamed = blames }
 
   -- and its run is extended
   pub ended_goes_on : (few most : ℕ) → s.table_id ≡ p.seat.table_id → HasEnded allows p s number A → seat_steps s.me.0.passes ≤ seat_steps p.seat.me.0.passes + few → few ≤ most → IsBetweenCalls p.layout p.number.0 (run_of (pass_view left_with)) left → HasBlamed (pass_view left_with) → HasGoneOn allows (pass_view p) (pass_view left_with) number most blamed

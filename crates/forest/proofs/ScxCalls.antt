@@ -1,6 +1,7 @@
 -- What a call of `scx` says.
 use Rattle.std.proofs.Common.{◌≡◌, ◌<◌, ◌≤◌, ◌+◌, ◌⊎◌, ◌↔◌, ℕ, inl, inr, Bool, true, false, cond, eqb, List, [], ◌∷◌, length, None, refl, sym, ◌∙◌, ap, subst, arith}
 use Rattle.atomic_table.specs.declared.shared.Seat.{Seat}
+use Rattle.arena.specs.Layout.{IsMap}
 use Rattle.histories.specs.Common.{Layout, NodeNo, Side, state, value, History, Opened, ◌⊳◌, Extends, IsOwnNode, IsOwnScx, IsTakenScx, Lawful, HasWon, Entry, log, has, IsEntered, Freeze, Records, Resource, Nodes}
 use Rattle.arena.specs.Log.{AreOnce}
 use Rattle.histories.proofs.Lemmas.{IsIn, Logs, aborted_never_won, lawful_tail, logs, newest, older, once, same as log_same, wins as log_wins}
@@ -15,7 +16,7 @@ use Rattle.arena.specs.declared.fault.Resource.TheVariants.{Scx as ScxRecords}
 use Rattle.forest.specs.declared.memory.PassMemory.{PassMemory}
 use Rattle.forest.specs.declared.view.SeatView.{SeatView}
 use Rattle.forest.specs.declared.pass.Pass.TheInside.{Inside}
-use Rattle.forest.specs.CallSteps.{AnyLeft}
+use Rattle.forest.specs.CallSteps.{AnyLeft, no_map_of_cells}
 use Rattle.forest.specs.TableRule.{history_of}
 use Rattle.forest.specs.Traces.{IsSeated, Trace, HoldsForCall, seat_steps, run_at}
 use Rattle.forest.specs.Shares.{IsBetweenCalls, entries_of}
@@ -165,6 +166,7 @@ module _ {T : Type 0} (p : Inside T) (x : IsPass AllowsAll Records p) (some_node
     is_pass = x.is_pass;
     sound = y.goes.sound;
     rest = put_rests (call_of p x number) y.run _ a (after_taking p.share) p.share.next_node p.share.next_scx snaps (put_hand y.run snaps finalize field v p.share.next_node p.share.next_scx number y.is_of) (omega arith) (omega arith) (λ e. let q = own_scx.from in omega arith) y.answers y.goes (same_end p.share some_node some_scx ∙ x.rest.upper);
+    dealt = λ map. absurd (no_map_of_cells (subst IsMap x.is_mode map));
     blamed = blamed_later (pass_view p) (pass_view (spent s)) refl refl refl y.goes.sound.lawful y.goes.since x.blamed;
   }
 

@@ -1,6 +1,6 @@
--- In a table where each record has a place of its own its words are where the layout says.
+-- Where words are in a table: where each record has a place of its own, where the layout says.
 use Rattle.std.proofs.Common.{◌≡◌, ◌<◌, ◌∙◌, ℕ, None, ap, sym, subst}
-use Rattle.std.proofs.Math.Nat.{mod-eq_of_lt}
+use Rattle.std.proofs.Math.Nat.{mod-eq_of_lt, zero-mod}
 use Rattle.arena.specs.Layout.{node_start, scx_start, start_of}
 use Rattle.histories.specs.Common.{Layout, NodeNo, ScxNo, Word, Node, Scx, IsWord, all_nodes, all_scx, node, scx, place, table_size}
 use Rattle.slots.specs.Lasting.{Lasting, slot_word}
@@ -50,3 +50,7 @@ module _ (site : Site) (lay : Layout) (same : site.layout ≡ lay) (once : site.
 
   pub place_of_table : (w : Word) (at : ℕ) → IsWord (names_of_table site) w → at ≡ place lay w → at < table_size lay → ((other : Word) → IsWord lay other → place lay other ≡ at → other ≡ w) → IsPlaceOf (slots_of_table site) w at
   place_of_table w at i is inside apart = subst (λ (t : Lasting). IsPlaceOf t w at) (sym slots_are) (place_in_place lay w at (subst (λ l. IsWord l w) names_are i) is inside apart)
+
+-- the root is where a table begins, in whatever slots
+pub root_begins : (t : Lasting) → 0 ≡ node_begins t record { 0 = 0 }
+root_begins t = ap (λ k. node_start t.table record { 0 = k }) (sym (zero-mod t.node_turn))

@@ -18,7 +18,8 @@ use Rattle.forest.specs.declared.memory.PassMemory.{PassMemory}
 use Rattle.forest.specs.declared.rule.CallStep.{CallStep}
 use Rattle.forest.specs.declared.view.SeatedPass.{SeatedPass}
 use Rattle.forest.specs.LastingMemory.{FillsDealt, IsDealt}
-use Rattle.forest.specs.TableRule.{ByOthers, dealt_to, history_of, past_of, row}
+use Rattle.forest.specs.Shares.{EndsAsDealt}
+use Rattle.forest.specs.TableRule.{ByOthers, history_of, past_of, row}
 
 -- The step of a pass is one of a map's call of it, whatever rows of others come before: a machine
 -- of that call waits for it. The call began when the pass had rested last, or later.
@@ -34,16 +35,16 @@ pub record IsOfMapCall (allows : Layout → History → ℕ → Type 0) (said : 
 pub dict_step : {K V : Type 0} (keys values : ℕ → Type 0) (m : DictRun K V) (c : Call) (h : History) (s : Step) → DictWaits keys values m c h s → IsMapStep c h (row_of c s h)
 dict_step keys values m c h s waits = record { tries = m.tries; machine = m.run; step = s; waits = waits.1; is = refl }
 
--- what it has left of its share ends where the names end that its pass has dealt
+-- what it has left of its share ends where the names end that are dealt
 abbrev pub HasDictLeft : {K V : Type 0} → DictRun K V → PassMemory → Type 0
-HasDictLeft m memory = share_end (share_of m.run) ≡ dealt_to memory
+HasDictLeft m memory = EndsAsDealt (share_of m.run) memory
 
 -- and does so as long as that ends where it did
 pub dict_keeps_left : {K V : Type 0} (old now : DictRun K V) (memory : PassMemory) → KeepsEnd old.run now.run → HasDictLeft old memory → HasDictLeft now memory
 dict_keeps_left old now memory end left = end ∙ left
 
 -- then what was taken of the share is dealt
-taken_dealt : (left : Remaining) (memory : PassMemory) (s : Step) → share_end left ≡ dealt_to memory → FillsTaken left s → (w : Word) → s.word ≡ w → s.kind ≡ Fill → IsDealt memory (record_of w)
+taken_dealt : (left : Remaining) (memory : PassMemory) (s : Step) → EndsAsDealt left memory → FillsTaken left s → (w : Word) → s.word ≡ w → s.kind ≡ Fill → IsDealt memory (record_of w)
 unfolding share_end
 taken_dealt left memory s end taken (Node n part) is fill = lt_of_lt_of_le (taken.nodes n.0 part fill is) (subst (λ k. left.next_node ≤ k) (ap (λ (e : ℕ × ℕ). e.0) end) (le-add_right left.next_node left.nodes))
 taken_dealt left memory s end taken (Scx t part) is fill = lt_of_lt_of_le (taken.records t.0 part fill is) (subst (λ k. left.next_scx ≤ k) (ap (λ (e : ℕ × ℕ). e.1) end) (le-add_right left.next_scx left.scx))

@@ -11,6 +11,7 @@ use Rattle.dict.specs.Typed.{TypedAllows}
 use Rattle.dict.specs.Words.{IsWordOf}
 use Rattle.dict.specs.declared.dict.DictRun.{DictRun}
 use Rattle.dict.specs.declared.shape.Dict.{Dict}
+use Rattle.prims.specs.Shares.{share_end}
 use Rattle.forest.specs.declared.open.OpenCall.TheInside.{Inside}
 use Rattle.forest.specs.declared.pass.Pass.TheInside as pass
 use Rattle.forest.specs.declared.view.SeatView.{SeatView}
@@ -19,7 +20,7 @@ use Rattle.forest.specs.Opened.{OpenView}
 use Rattle.forest.specs.Passes.{PassView, run_of, steps_of, taken_of}
 use Rattle.forest.specs.PassInvariant.{IsPass}
 use Rattle.forest.specs.StraightCalls.{IsSameDictCall}
-use Rattle.forest.specs.TableRule.{all_dealt, seated_pass}
+use Rattle.forest.specs.TableRule.{dealt_up_to, seated_pass}
 use Rattle.forest.specs.Traces.{Stands, known_of, planting_of, seat_steps, shared_nodes, weight, KnowsAs}
 
 -- what contracts see of a call that is held open
@@ -42,7 +43,7 @@ pass_as p s = record {
   number = record { 0 = p.number };
   layout = p.layout;
   share = p.share;
-  seat = record s { table_id = p.table; me = (record { passes = seated_pass p.number p.layout p.planting (all_dealt p.layout p.number) p.known ∷ [] }, []) };
+  seat = record s { table_id = p.table; me = (record { passes = seated_pass p.number p.layout p.planting (dealt_up_to (share_end p.share)) p.known ∷ [] }, []) };
   blamed = p.blamed;
   shape = record {};
 }

@@ -34,9 +34,13 @@ no_memory = record { rested = []; away = false; often = 0; nodes_to = 0; scx_to 
 abbrev pub dealt_to : PassMemory → ℕ × ℕ
 dealt_to m = (m.nodes_to, m.scx_to)
 
+-- what a pass remembers that has its names dealt up to there, and nothing else
+abbrev pub dealt_up_to : ℕ × ℕ → PassMemory
+dealt_up_to end = record no_memory { nodes_to = end.0; scx_to = end.1 }
+
 -- what pass c remembers where all of its names are dealt from the start
 abbrev pub all_dealt : Layout → ℕ → PassMemory
-all_dealt lay c = let end : ℕ × ℕ = share_end (whole_share lay c) in record no_memory { nodes_to = end.0; scx_to = end.1 }
+all_dealt lay c = dealt_up_to (share_end (whole_share lay c))
 
 -- what a seat knows that has these passes
 abbrev pub seat_view : List SeatedPass → SeatView

@@ -1,13 +1,11 @@
 -- The course of a call: the rows that the run has got while it was made.
 use Rattle.std.specs.Prelude.{◌≡◌, ◌≢◌, ◌==◌, if◌then◌else◌, ℕ, suc, false, List, [], ◌∷◌, Option, Some, None}
 use Rattle.histories.specs.Common.{Layout, Row, Step, History, ◌⊳◌, Extends, Call, IsRun, MatchTurn, row_of, Turn, Ask, Done, most_taken}
-use Rattle.arena.specs.Share.{whole_share}
-use Rattle.prims.specs.Shares.{share_end}
 use Rattle.forest.specs.declared.memory.PassMemory.{PassMemory}
 use Rattle.forest.specs.declared.view.SeatedPass.{SeatedPass}
 use Rattle.arena.specs.declared.limits.Mode.TheVariants.{Records}
 use Rattle.planting.specs.Plantings.{PlantingView, nothing_planted}
-use Rattle.forest.specs.TableRule.{dealt_to, history_of, no_memory, seated_pass}
+use Rattle.forest.specs.TableRule.{history_of, no_memory, seated_pass}
 
 -- how a call, begun with the machine `first`, has reached the machine m and the history h
 pub data Trace {M : Type 0} (allows : Layout → History → ℕ → Type 0) (waits : M → Call → History → Step → Type 0) (same : M → M → Type 0) (c : Call) (first : M) : M → History → Type 0 where
@@ -20,18 +18,13 @@ pub data Trace {M : Type 0} (allows : Layout → History → ℕ → Type 0) (wa
   -- the machine continued, with what it got
   goes_on : {m : M} {h : History} (old : M) → same old m → Trace allows waits same c first old h → Trace allows waits same c first m h
 
--- a pass of this number, which remembers so much, is there, and all of its names are dealt
-pub record HasAllDealt (n : ℕ) (lay : Layout) (memory : PassMemory) : Type 0 where
-  pub here : memory.away ≡ false
-  pub dealt : dealt_to memory ≡ share_end (whole_share lay n)
-
 -- The seat has the pass of the call alone, which knows these rows, and is there; and the call began
 -- when the pass had rested last, or later. What its first machine had left of the share is dealt.
 pub record IsInCall (left_dealt : PassMemory → Type 0) (ps : List SeatedPass) (c : Call) (planting : PlantingView) (known : List Row) : Type 0 where
   pub memory : PassMemory
   pub alone : ps ≡ seated_pass c.pass c.layout planting memory known ∷ []
   pub since : Extends c.start (history_of planting memory.rested)
-  pub there : HasAllDealt c.pass c.layout memory
+  pub there : memory.away ≡ false
   pub left : left_dealt memory
 
 -- so it is in the call, and P holds of the run that the pass knows
@@ -111,7 +104,7 @@ rest_at ps = history_of (planting_of ps) (memory_of ps).rested
 pub record IsSeated (n : ℕ) (lay : Layout) (ps : List SeatedPass) : Type 0 where
   pub alone : ps ≡ seated_pass n lay (planting_of ps) (memory_of ps) (known_of ps) ∷ []
   pub since : Extends (run_at ps) (rest_at ps)
-  pub there : HasAllDealt n lay (memory_of ps)
+  pub there : (memory_of ps).away ≡ false
 
 -- a seat's one pass knows these rows, in a table that is planted so
 abbrev pub KnowsAs : List SeatedPass → PlantingView → List Row → Type 0
