@@ -1,7 +1,8 @@
 -- In a table where each record has a place of its own its words are where the layout says.
-use Rattle.std.proofs.Common.{◌≡◌, ◌<◌, ap, sym, subst}
-use Rattle.std.proofs.Math.Nat.{mod-eq_of_lt, zero-mod}
+use Rattle.std.proofs.Common.{◌≡◌, ◌<◌, ◌*◌, ◌∙◌, ap, sym, subst}
+use Rattle.std.proofs.Math.Nat.{mod-eq_of_lt, mul-zero, zero-mod}
 use Rattle.arena.specs.Layout.{node_start, scx_start, start_of}
+use Rattle.arena.specs.Opening.{node_size}
 use Rattle.histories.specs.Common.{Layout, NodeNo, ScxNo, Word, Node, Scx, IsWord, all_nodes, all_scx}
 use Rattle.slots.specs.Lasting.{Lasting}
 use Rattle.forest.specs.Slotted.{in_place, names_of_table, node_begins, scx_begins, slots_of_table, word_begins}
@@ -29,4 +30,4 @@ word_of_table plot lay e w i = subst (λ (l : Layout). start_of l w ≡ word_beg
 
 -- the root is where a table begins, in whatever slots
 pub root_begins : (t : Lasting) → 0 ≡ node_begins t record { 0 = 0 }
-root_begins t = ap (λ k. node_start t.table record { 0 = k }) (sym (zero-mod t.node_turn))
+root_begins t = sym (mul-zero (node_size t.table.mode)) ∙ ap (λ k. node_size t.table.mode * k) (sym (zero-mod t.node_turn))
