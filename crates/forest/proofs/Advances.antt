@@ -52,17 +52,17 @@ same_knower ps p q a b = ap (first_or p) (sym a ∙ b)
 abbrev pub called_so : {allows : Layout → History → ℕ → Type 0} {left : PassMemory → Type 0} {ps : List SeatedPass} {c : Call} {P Q : History → Type 0} → HoldsForCall allows left ps c (λ h. P h × Q h) → HoldsForCall allows left ps c P
 called_so x = record { planting = x.planting; known = x.known; is = x.is; sound = x.sound; so = x.so.0 }
 
-module _ (allows : Layout → History → ℕ → Type 0) {left : PassMemory → Type 0} (c : Call) (said : CallStep) (called : c.number ≡ said.call) where
-  -- the row of the step is that of the call
-  row_is : (h : History) → row_of c said.step h ≡ row c.pass said h
-  row_is h = ap (λ (n : ℕ). row c.pass (record said { call = n }) h) called
+-- the row of the step is that of its call
+row_is : (c : Call) (said : CallStep) → c.number ≡ said.call → (h : History) → row_of c said.step h ≡ row c.pass said h
+row_is c said called h = ap (λ (n : ℕ). row c.pass (record said { call = n }) h) called
 
+module _ (allows : Layout → History → ℕ → Type 0) {left : PassMemory → Type 0} (c : Call) (said : CallStep) (called : c.number ≡ said.call) where
   -- the pass of the call, as the seat knows it
   abbrev knower : {ps : List SeatedPass} {P : History → Type 0} → HoldsForCall allows left ps c P → SeatedPass
   knower x = seated_pass c.pass c.layout x.planting x.is.memory x.known
 
   may_step : (ps : List SeatedPass) (waits : History → Type 0) → ((h : History) (r : Row) → IsRun allows c.layout (r ⊳ h) → r.pass.0 ≢ c.pass → waits h → waits (r ⊳ h)) → ((h : History) → IsRun allows c.layout h → waits h → IsRun allows c.layout (row_of c said.step h ⊳ h)) → (x : HoldsForCall allows left ps c waits) → MayStep allows said (knower x)
-  may_step ps waits keeps lawful x = λ rows by run. subst (λ r. IsRun allows c.layout (r ⊳ history_of x.planting (rows ++ x.known))) (row_is (history_of x.planting (rows ++ x.known))) (lawful (history_of x.planting (rows ++ x.known)) run (keeps_all allows c.layout c.pass waits x.planting keeps rows x.known by run x.so))
+  may_step ps waits keeps lawful x = λ rows by run. subst (λ r. IsRun allows c.layout (r ⊳ history_of x.planting (rows ++ x.known))) (row_is c said called (history_of x.planting (rows ++ x.known))) (lawful (history_of x.planting (rows ++ x.known)) run (keeps_all allows c.layout c.pass waits x.planting keeps rows x.known by run x.so))
 
   pub may : (ps : List SeatedPass) (waits : History → Type 0) → ((h : History) (r : Row) → IsRun allows c.layout (r ⊳ h) → r.pass.0 ≢ c.pass → waits h → waits (r ⊳ h)) → ((h : History) → IsRun allows c.layout h → waits h → IsRun allows c.layout (row_of c said.step h ⊳ h)) → HoldsForCall allows left ps c waits → (p : SeatedPass) × (ps ≡ p ∷ []) × MayStep allows said p
   may ps waits keeps lawful x = (knower x, x.is.alone, may_step ps waits keeps lawful x)
@@ -81,7 +81,7 @@ module _ (allows : Layout → History → ℕ → Type 0) {left : PassMemory →
         pass = refl;
         number = called;
         since = x.is.since;
-        step = λ rows by run. let h : History = history_of x.planting (rows ++ x.known) in subst (λ r. IsMapStep c h r) (row_is h) (steps h (keeps_all allows c.layout c.pass waits x.planting keeps rows x.known by run x.so));
+        step = λ rows by run. let h : History = history_of x.planting (rows ++ x.known) in subst (λ r. IsMapStep c h r) (row_is c said called h) (steps h (keeps_all allows c.layout c.pass waits x.planting keeps rows x.known by run x.so));
       };
       there = x.is.there;
       dealt = dealt;
@@ -101,11 +101,11 @@ module _ (allows : Layout → History → ℕ → Type 0) {left : PassMemory →
           let h : History = history_of x.planting (rows ++ x.known) in
           let by' : ByOthers c.pass rows = rw e at by in
           let before' : IsRun allows c.layout h = rw e at before in
-          let after' : IsRun allows c.layout (row_of c said.step h ⊳ h) = rw (row_is h) (rw e at after) in
+          let after' : IsRun allows c.layout (row_of c said.step h ⊳ h) = rw (row_is c said called h) (rw e at after) in
           let tells' : IsTold said.step.access (value h said.step.word) n = rw e at tells in
           let is' : qs ≡ seated_pass c.pass c.layout x.planting x.is.memory (row c.pass said h ∷ (rows ++ x.known)) ∷ [] = rw e at is in
           let done : Q (row_of c said.step h ⊳ h) = goes h after' tells' (keeps_all allows c.layout c.pass P x.planting keeps rows x.known by' before' x.so) in
-          record { planting = x.planting; known = row c.pass said h ∷ (rows ++ x.known); is = record { memory = x.is.memory; alone = is'; since = x.is.since; there = x.is.there; left = x.is.left }; sound = rw (row_is h) at after'; so = rw (row_is h) at done }
+          record { planting = x.planting; known = row c.pass said h ∷ (rows ++ x.known); is = record { memory = x.is.memory; alone = is'; since = x.is.since; there = x.is.there; left = x.is.left }; sound = rw (row_is c said called h) at after'; so = rw (row_is c said called h) at done }
 
 pub turn_map : {A : Type 0} (t : Turn A) (F F' : Step → Type 0) (H H' : A → Type 0) → ((s : Step) → F s → F' s) → ((a : A) → H a → H' a) → MatchTurn t F H → MatchTurn t F' H'
 turn_map (Ask s) F F' H H' f h x = f s x

@@ -24,7 +24,8 @@ pub trait CallMachine<S: Shape>: Machine<S> {
     ghost left_dealt: { Self → PassMemory → Type 0 };
 
     /// It does so where the machine continues.
-    ghost keeps_left: { (old now : Self) (memory : PassMemory) → Self.same old now → left_dealt old memory → left_dealt now memory };
+    ghost keeps_left: { (old now : Self) (memory : PassMemory)
+        → Self.same old now → left_dealt old memory → left_dealt now memory };
 
     /// Where it does, each step for which the machine waits in a map fills only what is dealt.
     ghost dealt: { (m : Self) (c : Call) (h : History) (s : Step) (memory : PassMemory)

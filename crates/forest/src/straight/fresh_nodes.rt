@@ -54,8 +54,8 @@ fn put<S: Shape, M: CallMachine<S>, E: Edit + Copy>(
     requires value { value ≡ word_of node.piece.now part }
     requires fills { StandsToFill S.Shape M.Machine M.left_dealt E.means hand node.found.now
         seat.old run.now node.nth (Some part) }
-    ensures goes_on { FillGoesOn S.Shape M.Machine M.left_dealt E.means hand.entry node.entry.found.now
-        run.now node.entry.nth node.entry.piece.now seat.old (Some part)
+    ensures goes_on { FillGoesOn S.Shape M.Machine M.left_dealt E.means hand.entry
+        node.entry.found.now run.now node.entry.nth node.entry.piece.now seat.old (Some part)
         seat.new (part_behind node.entry.piece.now part) }
     ensures moves { steps_made seat.old < steps_made seat.new }
 {
@@ -78,8 +78,8 @@ fn fill_word<S: Shape, M: CallMachine<S>, E: Edit + Copy>(
         node.nth node.start node.piece.now }
     requires fills { StandsToFill S.Shape M.Machine M.left_dealt E.means hand node.found.now
         seat.old run.now node.nth (Some part) }
-    ensures goes_on { FillGoesOn S.Shape M.Machine M.left_dealt E.means hand.entry node.entry.found.now
-        run.now node.entry.nth node.entry.piece.now seat.old (Some part)
+    ensures goes_on { FillGoesOn S.Shape M.Machine M.left_dealt E.means hand.entry
+        node.entry.found.now run.now node.entry.nth node.entry.piece.now seat.old (Some part)
         seat.new (part_behind node.entry.piece.now part) }
     ensures moves { steps_made seat.old < steps_made seat.new }
 {
@@ -102,7 +102,8 @@ fn fill<S: Shape, M: CallMachine<S>, E: Edit + Copy>(
         node.nth node.start node.piece.now }
     requires fills { StandsToFill S.Shape M.Machine M.left_dealt E.means hand node.found.now
         seat.old run.now node.nth (Some part) }
-    ensures goes_on { FillGoesOn S.Shape M.Machine M.left_dealt E.means hand.entry node.entry.found.now
+    ensures goes_on { FillGoesOn S.Shape M.Machine M.left_dealt E.means hand.entry
+        node.entry.found.now
         run.now node.entry.nth node.entry.piece.now seat.old (Some part) seat.new result }
     ensures moves { steps_made seat.old < steps_made seat.new }
     ensures filled { IfSome result (λ part. is_filled node.entry.piece.now part ≡ true) }
@@ -126,7 +127,8 @@ fn fill_high<S: Shape, M: CallMachine<S>, E: Edit + Copy>(
     requires fresh { IsFreshPiece (hand_slots hand) E.means run.now node.found.now
         node.nth node.start node.piece.now }
     requires value { high ≡ word_of node.piece.now (NodeWord.Settled (SettledPart.High slot)) }
-    requires fills { StandsToFill S.Shape M.Machine M.left_dealt E.means hand node.found.now seat.old run.now
+    requires fills { StandsToFill S.Shape M.Machine M.left_dealt E.means hand node.found.now
+        seat.old run.now
         node.nth (part_behind node.piece.now (NodeWord.Settled (SettledPart.Value slot))) }
     ensures { FillGoesOn S.Shape M.Machine M.left_dealt E.means hand.entry node.entry.found.now
         run.now node.entry.nth node.entry.piece.now
@@ -157,7 +159,8 @@ fn fill_pair<S: Shape, M: CallMachine<S>, E: Edit + Copy>(
         seat.old run.now node.nth (Some (NodeWord.Settled (SettledPart.Key slot))) }
     requires leaf { is_leaf_piece node.piece.now ≡ true }
     requires there { is_filled node.piece.now (NodeWord.Settled (SettledPart.Key slot)) ≡ true }
-    ensures goes_on { FillGoesOn S.Shape M.Machine M.left_dealt E.means hand.entry node.entry.found.now
+    ensures goes_on { FillGoesOn S.Shape M.Machine M.left_dealt E.means hand.entry
+        node.entry.found.now
         run.now node.entry.nth node.entry.piece.now seat.old (Some (NodeWord.Settled (SettledPart.Key slot)))
         seat.new result }
     ensures filled { IfSome result (λ part. is_filled node.entry.piece.now part ≡ true) }
@@ -186,7 +189,8 @@ fn fill_more<S: Shape, M: CallMachine<S>, E: Edit + Copy>(
     requires fills { StandsToFill S.Shape M.Machine M.left_dealt E.means hand node.found.now
         seat.old run.now node.nth next }
     requires there { IfSome next (λ part. is_filled node.piece.now part ≡ true) }
-    ensures goes_on { FillGoesOn S.Shape M.Machine M.left_dealt E.means hand.entry node.entry.found.now
+    ensures goes_on { FillGoesOn S.Shape M.Machine M.left_dealt E.means hand.entry
+        node.entry.found.now
         run.now node.entry.nth node.entry.piece.now seat.old next seat.new result }
     ensures filled { IfSome result (λ part. is_filled node.entry.piece.now part ≡ true) }
 {
@@ -283,8 +287,8 @@ fn fill_leaf<S: Shape, M: CallMachine<S>, E: Edit + Copy>(
         node.nth node.start node.piece.now }
     requires fills { StandsToFill S.Shape M.Machine M.left_dealt E.means hand node.found.now
         seat.old run.now node.nth (Some (NodeWord.Settled SettledPart.Head)) }
-    ensures goes_on { FillGoesOn S.Shape M.Machine M.left_dealt E.means hand.entry node.entry.found.now
-        run.now node.entry.nth node.entry.piece.now
+    ensures goes_on { FillGoesOn S.Shape M.Machine M.left_dealt E.means hand.entry
+        node.entry.found.now run.now node.entry.nth node.entry.piece.now
         seat.old (Some (NodeWord.Settled SettledPart.Head)) seat.new None }
     ensures moves { steps_made seat.old < steps_made seat.new }
 {
@@ -311,8 +315,8 @@ fn fill_fork<S: Shape, M: CallMachine<S>, E: Edit + Copy>(
     requires fills { StandsToFill S.Shape M.Machine M.left_dealt E.means hand node.found.now
         seat.old run.now node.nth (Some (NodeWord.Settled SettledPart.Head)) }
     requires fork { is_leaf_piece node.piece.now ≡ false }
-    ensures goes_on { FillGoesOn S.Shape M.Machine M.left_dealt E.means hand.entry node.entry.found.now
-        run.now node.entry.nth node.entry.piece.now
+    ensures goes_on { FillGoesOn S.Shape M.Machine M.left_dealt E.means hand.entry
+        node.entry.found.now run.now node.entry.nth node.entry.piece.now
         seat.old (Some (NodeWord.Settled SettledPart.Head)) seat.new None }
     ensures moves { steps_made seat.old < steps_made seat.new }
 {
@@ -336,8 +340,8 @@ fn fill_words<S: Shape, M: CallMachine<S>, E: Edit + Copy>(
         node.nth node.start node.piece.now }
     requires fills { StandsToFill S.Shape M.Machine M.left_dealt E.means hand node.found.now
         seat.old run.now node.nth (Some (NodeWord.Settled SettledPart.Head)) }
-    ensures goes_on { FillGoesOn S.Shape M.Machine M.left_dealt E.means hand.entry node.entry.found.now
-        run.now node.entry.nth node.entry.piece.now
+    ensures goes_on { FillGoesOn S.Shape M.Machine M.left_dealt E.means hand.entry
+        node.entry.found.now run.now node.entry.nth node.entry.piece.now
         seat.old (Some (NodeWord.Settled SettledPart.Head)) seat.new None }
     ensures moves { steps_made seat.old < steps_made seat.new }
 {

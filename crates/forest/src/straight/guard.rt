@@ -61,10 +61,12 @@ fn pass<S: Shape, M: CallMachine<S>, E: Edit + Copy>(
     requires begins { (u : Updater (hand_calls S.Shape M.Machine M.left_dealt hand) E.means)
         × UpdaterBegins u seat.old.me.0.passes run.old }
     ensures walks { IfOk result (λ place.
-        BeginsToWalk S.Shape M.Machine M.left_dealt E.means hand.entry way goal seat.old run.old seat.new run.new place) }
+        BeginsToWalk S.Shape M.Machine M.left_dealt E.means hand.entry way goal seat.old run.old
+        seat.new run.new place) }
     ensures ends { IfErr result (λ updated. Leads seat.old seat.new
         (update_left E.means (standing run.old Places.Start) (shared_nodes (names hand.entry)))
-        (λ (u : Updater (hand_calls S.Shape M.Machine M.left_dealt hand.entry) E.means) ps. UpdaterBegins u ps run.old)
+        (λ (u : Updater (hand_calls S.Shape M.Machine M.left_dealt hand.entry) E.means) ps.
+        UpdaterBegins u ps run.old)
         (λ u ps. UpdaterEnds u ps run.new updated)) }
 {
     let part = NodeWord::Settled(SettledPart::Head);
@@ -98,10 +100,12 @@ pub(crate) fn begin<S: Shape, M: CallMachine<S>, E: Edit + Copy>(
     requires begins { (u : Updater (hand_calls S.Shape M.Machine M.left_dealt hand) E.means)
         × UpdaterBegins u seat.old.me.0.passes run.old }
     ensures walks { IfOk result (λ place.
-        BeginsToWalk S.Shape M.Machine M.left_dealt E.means hand.entry way goal seat.old run.old seat.new run.new place) }
+        BeginsToWalk S.Shape M.Machine M.left_dealt E.means hand.entry way goal seat.old run.old
+        seat.new run.new place) }
     ensures ends { IfErr result (λ updated. Leads seat.old seat.new
         (update_left E.means (standing run.old Places.Start) (shared_nodes (names hand.entry)))
-        (λ (u : Updater (hand_calls S.Shape M.Machine M.left_dealt hand.entry) E.means) ps. UpdaterBegins u ps run.old)
+        (λ (u : Updater (hand_calls S.Shape M.Machine M.left_dealt hand.entry) E.means) ps.
+        UpdaterBegins u ps run.old)
         (λ u ps. UpdaterEnds u ps run.new updated)) }
 {
     if run.edit.guard() {

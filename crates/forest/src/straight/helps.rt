@@ -32,9 +32,10 @@ fn act_on<S: Shape, M: CallMachine<S>, T: Shape>(
 ) -> u64
     requires table { IsAt hand seat.old }
     requires start { start ≡ word_begins (hand_slots hand) word }
-    requires waits { WaitsInside (hand_calls S.Shape M.Machine M.left_dealt hand) (inner_help T.allows)
-        seat.old record { kind = kind; word = word; access = access } }
-    ensures { MakesInside (hand_calls S.Shape M.Machine M.left_dealt hand.entry) (inner_help T.allows)
+    requires waits { WaitsInside (hand_calls S.Shape M.Machine M.left_dealt hand)
+        (inner_help T.allows) seat.old record { kind = kind; word = word; access = access } }
+    ensures { MakesInside (hand_calls S.Shape M.Machine M.left_dealt hand.entry)
+        (inner_help T.allows)
         seat.old seat.new record { kind = kind; word = word; access = access } result }
 {
     step_from::<S, M>(hand, seat, Step { kind, word, access }, start)
@@ -51,9 +52,11 @@ fn act<S: Shape, M: CallMachine<S>, T: Shape>(
     access: Access,
 ) -> u64
     requires table { IsAt hand seat.old }
-    requires waits { WaitsInside (hand_calls S.Shape M.Machine M.left_dealt hand) (inner_help T.allows)
+    requires waits { WaitsInside (hand_calls S.Shape M.Machine M.left_dealt hand)
+        (inner_help T.allows)
         seat.old record { kind = kind; word = Word.Node node part; access = access } }
-    ensures { MakesInside (hand_calls S.Shape M.Machine M.left_dealt hand.entry) (inner_help T.allows)
+    ensures { MakesInside (hand_calls S.Shape M.Machine M.left_dealt hand.entry)
+        (inner_help T.allows)
         seat.old seat.new record { kind = kind; word = Word.Node node part; access = access } result }
 {
     let start = hand.node_start(node);
@@ -72,10 +75,10 @@ fn read<S: Shape, M: CallMachine<S>, T: Shape>(
 ) -> u64
     requires table { IsAt hand seat.old }
     requires start { start ≡ scx_begins (hand_slots hand) scx }
-    requires waits { WaitsInside (hand_calls S.Shape M.Machine M.left_dealt hand) (inner_help T.allows)
-        seat.old (settled_load scx.0 part) }
-    ensures { MakesInside (hand_calls S.Shape M.Machine M.left_dealt hand.entry) (inner_help T.allows)
-        seat.old seat.new (settled_load scx.0 part) result }
+    requires waits { WaitsInside (hand_calls S.Shape M.Machine M.left_dealt hand)
+        (inner_help T.allows) seat.old (settled_load scx.0 part) }
+    ensures { MakesInside (hand_calls S.Shape M.Machine M.left_dealt hand.entry)
+        (inner_help T.allows) seat.old seat.new (settled_load scx.0 part) result }
 {
     let (kind, word) = (Kind::LoadSettled, Word::Scx(scx, part));
     let access = Access::Load;
@@ -233,7 +236,8 @@ pub(crate) fn begin<S: Shape, M: CallMachine<S>, T: Shape, E>(
     requires waits { (k : Helper T.allows (hand_calls S.Shape M.Machine M.left_dealt hand))
         × LoadsPlan k seat.old.me.0.passes run.old }
     ensures leads { Leads seat.old seat.new 13
-        (λ (k : Helper T.allows (hand_calls S.Shape M.Machine M.left_dealt hand.entry)) ps. LoadsPlan k ps run.old)
+        (λ (k : Helper T.allows (hand_calls S.Shape M.Machine M.left_dealt hand.entry)) ps.
+        LoadsPlan k ps run.old)
         (λ k ps. IsBehindFreezes k ps run.new result) }
     ensures same { run.new.scx ≡ run.old.scx }
     ensures left { result ≡ false → help_left run.new.at ≤ 1 }
@@ -257,7 +261,8 @@ pub(crate) fn commit<S: Shape, M: CallMachine<S>, T: Shape>(
     requires waits { (k : Helper T.allows (hand_calls S.Shape M.Machine M.left_dealt hand))
         × SetsFlag k seat.old.me.0.passes run.now }
     ensures { Leads seat.old seat.new 9
-        (λ (k : Helper T.allows (hand_calls S.Shape M.Machine M.left_dealt hand.entry)) ps. SetsFlag k ps run.now)
+        (λ (k : Helper T.allows (hand_calls S.Shape M.Machine M.left_dealt hand.entry)) ps.
+        SetsFlag k ps run.now)
         (λ k ps. (v : ℕ) × InnerIsTold k ps (record run.now { at = HelpAt.Commit }) v) }
 {
     let (scx, plan) = (run.scx, run.plan);
@@ -290,7 +295,8 @@ pub(crate) fn call<S: Shape, M: CallMachine<S>, T: Shape>(
     requires waits { (k : Helper T.allows (hand_calls S.Shape M.Machine M.left_dealt hand))
         × LoadsPlan k seat.old.me.0.passes run.old }
     ensures leads { Leads seat.old seat.new 22
-        (λ (k : Helper T.allows (hand_calls S.Shape M.Machine M.left_dealt hand.entry)) ps. LoadsPlan k ps run.old)
+        (λ (k : Helper T.allows (hand_calls S.Shape M.Machine M.left_dealt hand.entry)) ps.
+        LoadsPlan k ps run.old)
         (λ k ps. IsBehindHelp k ps run.new result) }
     ensures same { run.new.scx ≡ run.old.scx }
     ensures left { result ≡ false → steps_made seat.new + suc (help_left run.new.at)

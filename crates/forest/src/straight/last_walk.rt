@@ -99,8 +99,8 @@ fn end_last<S: Shape, M: CallMachine<S>>(
     requires table { IsAt hand seat.old }
     requires stands { AsksHead (hand_slots hand) trail at start }
     requires leaf { (head_of word).leaf ≡ true }
-    requires told { HasWalked S.Shape M.Machine M.left_dealt hand seat.old (way_at way (Goal.End side) trail at)
-        word }
+    requires told { HasWalked S.Shape M.Machine M.left_dealt hand seat.old
+        (way_at way (Goal.End side) trail at) word }
     ensures table { StaysAtTable seat.old seat.new }
     ensures steps { steps_made seat.new ≤ steps_made seat.old + 7 }
     ensures finds { WalkFinds S.Shape M.Machine M.left_dealt hand.entry seat.old
@@ -138,13 +138,13 @@ fn pass_last<S: Shape, M: CallMachine<S>>(
     requires stands { AsksHead (hand_slots hand) trail at start }
     requires left { (head_of word).leaf ≡ false
         → open_side (Goal.End side) (head_of word) ≡ Side.Left }
-    requires told { HasWalked S.Shape M.Machine M.left_dealt hand seat.old (way_at way (Goal.End side) trail at)
-        word }
+    requires told { HasWalked S.Shape M.Machine M.left_dealt hand seat.old
+        (way_at way (Goal.End side) trail at) word }
     ensures table { StaysAtTable seat.old seat.new }
     ensures steps { MatchResult result (λ _. steps_made seat.new ≡ steps_made seat.old)
         (λ _. steps_made seat.new ≤ steps_made seat.old + 7) }
-    ensures down { IfOk result (λ to. WalkGoesDown S.Shape M.Machine M.left_dealt hand.entry seat.old
-        (way_at way (Goal.End side) trail at) word seat.new to false) }
+    ensures down { IfOk result (λ to. WalkGoesDown S.Shape M.Machine M.left_dealt hand.entry
+        seat.old (way_at way (Goal.End side) trail at) word seat.new to false) }
     ensures finds { IfErr result (WalkFinds S.Shape M.Machine M.left_dealt hand.entry seat.old
         (way_at way (Goal.End side) trail at) word seat.new) }
 {
@@ -215,12 +215,13 @@ pub(crate) fn to_last_from<S: Shape, M: CallMachine<S>>(
 ) -> (Found, LastTurns)
     requires table { IsAt hand seat.old }
     requires stands { AsksHead (hand_slots hand) first.trail first.at first.start }
-    requires waits { MayWalkFrom S.Shape M.Machine M.left_dealt hand seat.old way (Goal.End Side.Right) first }
+    requires waits { MayWalkFrom S.Shape M.Machine M.left_dealt hand seat.old way
+        (Goal.End Side.Right) first }
     ensures table { StaysAtTable seat.old seat.new }
     ensures steps { steps_made seat.new ≤ steps_made seat.old
         + suc (walk_left first.at (room way (shared_nodes (names hand.entry)))) }
-    ensures finds { WalkEndsFrom S.Shape M.Machine M.left_dealt hand.entry seat.old way (Goal.End Side.Right)
-        first seat.new result.1 result.0 }
+    ensures finds { WalkEndsFrom S.Shape M.Machine M.left_dealt hand.entry seat.old way
+        (Goal.End Side.Right) first seat.new result.1 result.0 }
 {
     let layout = *hand.layout;
     let hand = Hand {

@@ -66,11 +66,12 @@ pub(crate) fn tell<S: Shape, M: CallMachine<S>, T: Shape, N: Machine<T>>(
     told: u64,
 ) -> N::Answer
     requires table { IsAt hand seat.old }
-    requires told { (r : Host (hand_calls S.Shape M.Machine M.left_dealt hand) (inner_machine T.Shape N.Machine))
+    requires told { (r : Host (hand_calls S.Shape M.Machine M.left_dealt hand)
+        (inner_machine T.Shape N.Machine))
         × HostedIsTold r seat.old.me.0.passes run.old told }
     ensures { Leads seat.old seat.new (N.left run.old (shared_nodes (names hand.entry)))
-        (λ (r : Host (hand_calls S.Shape M.Machine M.left_dealt hand.entry) (inner_machine T.Shape N.Machine))
-        ps. HostedIsTold r ps run.old told)
+        (λ (r : Host (hand_calls S.Shape M.Machine M.left_dealt hand.entry)
+        (inner_machine T.Shape N.Machine)) ps. HostedIsTold r ps run.old told)
         (λ r ps. HostedEnds r ps run.new result) }
 {
     let turn = run.next(Some(told));
@@ -191,7 +192,8 @@ fn validate_on<S: Shape, M: CallMachine<S>, R: Read + Drop>(
     run: &mut ReadRun<R>,
 ) -> Result<R::Answer, Refused>
     requires table { IsAt hand seat.old }
-    requires waits { StandsToRead S.Shape M.Machine M.left_dealt R.means hand seat.old run.old ReadNext.Validate }
+    requires waits { StandsToRead S.Shape M.Machine M.left_dealt R.means hand seat.old run.old
+        ReadNext.Validate }
     ensures { ReadEnds S.Shape M.Machine M.left_dealt R.means hand.entry
         seat.old run.old ReadNext.Validate seat.new run.new result }
 {
@@ -291,7 +293,8 @@ fn read_next_pair<S: Shape, M: CallMachine<S>, R: Read + Drop>(
     slot: Slot,
 ) -> Result<ReadNext, ReadStop>
     requires table { IsAt hand seat.old }
-    requires waits { StandsToRead S.Shape M.Machine M.left_dealt R.means hand seat.old run.old next }
+    requires waits { StandsToRead S.Shape M.Machine M.left_dealt R.means hand seat.old run.old
+        next }
     ensures { ReadGoesOn S.Shape M.Machine M.left_dealt R.means hand.entry 0
         seat.old run.old (Ok next) seat.new run.new result }
 {
@@ -313,7 +316,8 @@ fn read_pairs<S: Shape, M: CallMachine<S>, R: Read + Drop>(
     first: ReadNext,
 ) -> Result<ReadNext, ReadStop>
     requires table { IsAt hand seat.old }
-    requires waits { StandsToRead S.Shape M.Machine M.left_dealt R.means hand seat.old run.old first }
+    requires waits { StandsToRead S.Shape M.Machine M.left_dealt R.means hand seat.old run.old
+        first }
     ensures { ReadGoesOn S.Shape M.Machine M.left_dealt R.means hand.entry 0
         seat.old run.old (Ok first) seat.new run.new result }
 {
@@ -371,7 +375,8 @@ fn look_next<S: Shape, M: CallMachine<S>, R: Read + Drop>(
     next: ReadNext,
 ) -> Result<ReadNext, ReadStop>
     requires table { IsAt hand seat.old }
-    requires waits { StandsToRead S.Shape M.Machine M.left_dealt R.means hand seat.old run.old next }
+    requires waits { StandsToRead S.Shape M.Machine M.left_dealt R.means hand seat.old run.old
+        next }
     ensures { ReadGoesOn S.Shape M.Machine M.left_dealt R.means hand.entry 0
         seat.old run.old (Ok next) seat.new run.new result }
 {
@@ -395,7 +400,8 @@ fn rest_by_turns<S: Shape, M: CallMachine<S>, R: Read + Drop>(
     mut next: ReadNext,
 ) -> Result<R::Answer, Refused>
     requires table { IsAt hand seat.old }
-    requires waits { StandsToRead S.Shape M.Machine M.left_dealt R.means hand seat.old run.old next }
+    requires waits { StandsToRead S.Shape M.Machine M.left_dealt R.means hand seat.old run.old
+        next }
     ensures { ReadEnds S.Shape M.Machine M.left_dealt R.means hand.entry
         seat.old run.old next seat.new run.new result }
 {
@@ -428,7 +434,8 @@ fn rest<S: Shape, M: CallMachine<S>, R: Read + Drop>(
     next: ReadNext,
 ) -> Result<R::Answer, Refused>
     requires table { IsAt hand seat.old }
-    requires waits { StandsToRead S.Shape M.Machine M.left_dealt R.means hand seat.old run.old next }
+    requires waits { StandsToRead S.Shape M.Machine M.left_dealt R.means hand seat.old run.old
+        next }
     ensures { ReadEnds S.Shape M.Machine M.left_dealt R.means hand.entry
         seat.old run.old next seat.new run.new result }
 {
@@ -447,7 +454,8 @@ fn go_on<S: Shape, M: CallMachine<S>, R: Read + Drop>(
     first: ReadNext,
 ) -> Result<R::Answer, Refused>
     requires table { IsAt hand seat.old }
-    requires waits { StandsToRead S.Shape M.Machine M.left_dealt R.means hand seat.old run.old first }
+    requires waits { StandsToRead S.Shape M.Machine M.left_dealt R.means hand seat.old run.old
+        first }
     ensures { ReadEnds S.Shape M.Machine M.left_dealt R.means hand.entry
         seat.old run.old first seat.new run.new result }
 {

@@ -81,7 +81,8 @@ fn read_next_pair<S: Shape, M: CallMachine<S>, E: Edit + Copy>(
     slot: Slot,
 ) -> Next
     requires table { IsAt hand seat.old }
-    requires tries { StandsToTry S.Shape M.Machine M.left_dealt E.means hand found.now seat.old run.old (Ok next) }
+    requires tries { StandsToTry S.Shape M.Machine M.left_dealt E.means hand found.now seat.old
+        run.old (Ok next) }
     requires pair { is_at_pair run.old.read ≡ true }
     ensures pair { is_at_pair run.new.read ≡ true }
     ensures goes_on { TryGoesOn S.Shape M.Machine M.left_dealt E.means hand.entry found.now

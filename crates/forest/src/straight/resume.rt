@@ -118,7 +118,8 @@ fn rest_from_next<S: Shape, M: CallMachine<S>, E: Edit + Copy>(
     next: Result<Next, Stop>,
 ) -> (Updated, UpdateRun<E, ()>)
     requires table { IsAt hand seat.old }
-    requires goes_on { StandsToTry S.Shape M.Machine M.left_dealt E.means hand found seat.old machine next }
+    requires goes_on { StandsToTry S.Shape M.Machine M.left_dealt E.means hand found seat.old
+        machine next }
     ensures { TryEnds S.Shape M.Machine M.left_dealt E.means hand.entry found
         seat.old machine next seat.new result.1 result.0 }
 {
@@ -145,7 +146,8 @@ pub(crate) fn from_next<S: Shape, M: CallMachine<S>, E: Edit + Copy>(
     next: Result<Next, Stop>,
 ) -> Updated
     requires table { IsAt hand seat.old }
-    requires goes_on { StandsToTry S.Shape M.Machine M.left_dealt E.means hand found.now seat.old run.old next }
+    requires goes_on { StandsToTry S.Shape M.Machine M.left_dealt E.means hand found.now seat.old
+        run.old next }
     ensures { TryEnds S.Shape M.Machine M.left_dealt E.means hand.entry found.now
         seat.old run.old next seat.new run.new result }
 {

@@ -46,10 +46,10 @@ fn fill<S: Shape, M: CallMachine<S>, T: Shape>(
 ) -> u64
     requires table { IsAt hand seat.old }
     requires start { start ≡ scx_begins (hand_slots hand) scx }
-    requires waits { WaitsInside (hand_calls S.Shape M.Machine M.left_dealt hand) (inner_scx T.allows)
-        seat.old (scx_fill scx part value) }
-    ensures { MakesInside (hand_calls S.Shape M.Machine M.left_dealt hand.entry) (inner_scx T.allows)
-        seat.old seat.new (scx_fill scx part value) result }
+    requires waits { WaitsInside (hand_calls S.Shape M.Machine M.left_dealt hand)
+        (inner_scx T.allows) seat.old (scx_fill scx part value) }
+    ensures { MakesInside (hand_calls S.Shape M.Machine M.left_dealt hand.entry)
+        (inner_scx T.allows) seat.old seat.new (scx_fill scx part value) result }
 {
     let (kind, word) = (Kind::Fill, Word::Scx(scx, part));
     let access = Access::Store(value);
@@ -78,7 +78,8 @@ fn fill_member<S: Shape, M: CallMachine<S>, T: Shape, L: SnapList>(
         (k : Changer T.allows (hand_calls S.Shape M.Machine M.left_dealt hand.entry))
         → FillsMember k seat.old.me.0.passes (L.list snaps.now) change j
         → FillsMember k seat.new.me.0.passes (L.list snaps.now) change next) }
-    ensures last { IfNone result ((k : Changer T.allows (hand_calls S.Shape M.Machine M.left_dealt hand.entry))
+    ensures last { IfNone result
+        ((k : Changer T.allows (hand_calls S.Shape M.Machine M.left_dealt hand.entry))
         → FillsMember k seat.old.me.0.passes (L.list snaps.now) change j
         → FillsSeen k seat.new.me.0.passes (L.list snaps.now) change MemberIndex.First) }
 {
@@ -141,7 +142,8 @@ fn fill_seen<S: Shape, M: CallMachine<S>, T: Shape, L: SnapList>(
         (k : Changer T.allows (hand_calls S.Shape M.Machine M.left_dealt hand.entry))
         → FillsSeen k seat.old.me.0.passes (L.list snaps.now) change j
         → FillsSeen k seat.new.me.0.passes (L.list snaps.now) change next) }
-    ensures last { IfNone result ((k : Changer T.allows (hand_calls S.Shape M.Machine M.left_dealt hand.entry))
+    ensures last { IfNone result
+        ((k : Changer T.allows (hand_calls S.Shape M.Machine M.left_dealt hand.entry))
         → FillsSeen k seat.old.me.0.passes (L.list snaps.now) change j
         → FillsCall k seat.new.me.0.passes (L.list snaps.now) change) }
 {

@@ -44,7 +44,8 @@ pub(crate) fn make<S: Shape, M: CallMachine<S>, E: Edit + Copy>(
     ensures { let new = new_update edit share tries hand.entry.number in
         Leads seat.old seat.new (update_left E.means (standing new UpdateAt.Start)
         (shared_nodes (names hand.entry)))
-        (λ (u : Updater (hand_calls S.Shape M.Machine M.left_dealt hand.entry) E.means) ps. UpdaterBegins u ps new)
+        (λ (u : Updater (hand_calls S.Shape M.Machine M.left_dealt hand.entry) E.means) ps.
+        UpdaterBegins u ps new)
         (λ u ps. UpdaterLeaves u ps result.0 result.1) }
 {
     let hand = Hand {
@@ -108,7 +109,8 @@ fn try_on<S: Shape, M: CallMachine<S>, E: Edit + Copy>(
     next: Result<Next, Stop>,
 ) -> Updated
     requires table { IsAt hand seat.old }
-    requires goes_on { StandsToTry S.Shape M.Machine M.left_dealt E.means hand found.now seat.old run.old next }
+    requires goes_on { StandsToTry S.Shape M.Machine M.left_dealt E.means hand found.now seat.old
+        run.old next }
     ensures { TryEnds S.Shape M.Machine M.left_dealt E.means hand.entry found.now
         seat.old run.old next seat.new run.new result }
 {
@@ -138,7 +140,8 @@ fn look_on<S: Shape, M: CallMachine<S>, E: Edit + Copy>(
     next: Result<Next, Stop>,
 ) -> Result<Next, Stop>
     requires table { IsAt hand seat.old }
-    requires goes_on { StandsToTry S.Shape M.Machine M.left_dealt E.means hand found.now seat.old run.old next }
+    requires goes_on { StandsToTry S.Shape M.Machine M.left_dealt E.means hand found.now seat.old
+        run.old next }
     ensures { TryGoesOn S.Shape M.Machine M.left_dealt E.means hand.entry found.now
         seat.old run.old next seat.new run.new result }
 {
@@ -159,7 +162,8 @@ fn read_on<S: Shape, M: CallMachine<S>, E: Edit + Copy>(
     next: Result<Next, Stop>,
 ) -> Result<Next, Stop>
     requires table { IsAt hand seat.old }
-    requires goes_on { StandsToTry S.Shape M.Machine M.left_dealt E.means hand found.now seat.old run.old next }
+    requires goes_on { StandsToTry S.Shape M.Machine M.left_dealt E.means hand found.now seat.old
+        run.old next }
     ensures { TryGoesOn S.Shape M.Machine M.left_dealt E.means hand.entry found.now
         seat.old run.old next seat.new run.new result }
 {
@@ -180,7 +184,8 @@ fn fill_on<S: Shape, M: CallMachine<S>, E: Edit + Copy>(
     next: Result<Next, Stop>,
 ) -> Result<Next, Stop>
     requires table { IsAt hand seat.old }
-    requires goes_on { StandsToTry S.Shape M.Machine M.left_dealt E.means hand found.now seat.old run.old next }
+    requires goes_on { StandsToTry S.Shape M.Machine M.left_dealt E.means hand found.now seat.old
+        run.old next }
     ensures { TryGoesOn S.Shape M.Machine M.left_dealt E.means hand.entry found.now
         seat.old run.old next seat.new run.new result }
 {

@@ -143,11 +143,12 @@ fn end<S: Shape, M: CallMachine<S>>(
     requires table { IsAt hand seat.old }
     requires stands { AsksHead (hand_slots hand) trail at start }
     requires leaf { (head_of word).leaf ≡ true }
-    requires told { HasWalked S.Shape M.Machine M.left_dealt hand seat.old (way_at way goal trail at) word }
+    requires told { HasWalked S.Shape M.Machine M.left_dealt hand seat.old
+        (way_at way goal trail at) word }
     ensures table { StaysAtTable seat.old seat.new }
     ensures steps { steps_made seat.new ≤ steps_made seat.old + 7 }
-    ensures finds { WalkFinds S.Shape M.Machine M.left_dealt hand.entry seat.old (way_at way goal trail at) word
-        seat.new result }
+    ensures finds { WalkFinds S.Shape M.Machine M.left_dealt hand.entry seat.old
+        (way_at way goal trail at) word seat.new result }
 {
     let head = Head::of(word);
     if head.class == 0 {
@@ -260,11 +261,12 @@ fn pass_by_key<S: Shape, M: CallMachine<S>>(
     requires table { IsAt hand seat.old }
     requires stands { AsksHead (hand_slots hand) trail at start }
     requires asks { IsAskedFork goal (head_of word) }
-    requires told { HasWalked S.Shape M.Machine M.left_dealt hand seat.old (way_at way goal trail at) word }
+    requires told { HasWalked S.Shape M.Machine M.left_dealt hand seat.old
+        (way_at way goal trail at) word }
     ensures table { StaysAtTable seat.old seat.new }
     ensures one { steps_made seat.new ≡ suc (steps_made seat.old) }
-    ensures down { IfOk result (λ to. WalkGoesDown S.Shape M.Machine M.left_dealt hand.entry seat.old
-        (way_at way goal trail at) word seat.new to.0 to.1) }
+    ensures down { IfOk result (λ to. WalkGoesDown S.Shape M.Machine M.left_dealt hand.entry
+        seat.old (way_at way goal trail at) word seat.new to.0 to.1) }
     ensures finds { IfErr result (WalkFinds S.Shape M.Machine M.left_dealt hand.entry seat.old
         (way_at way goal trail at) word seat.new) }
 {
@@ -310,10 +312,12 @@ fn step_by_key<S: Shape, M: CallMachine<S>>(
         ≤ walk_left place.at (room way (shared_nodes (names hand.entry)))) }
     ensures steps { MatchResult result (λ _. steps_made seat.new ≡ steps_made seat.old + 3)
         (λ _. steps_made seat.new ≡ suc (steps_made seat.old)) }
-    ensures told { IfOk result (λ to. (w : Walker (hand_calls S.Shape M.Machine M.left_dealt hand.entry))
+    ensures told { IfOk result (λ to.
+        (w : Walker (hand_calls S.Shape M.Machine M.left_dealt hand.entry))
         → WalkerHasHead w seat.old.me.0.passes way goal place word
         → WalkerHasHead w seat.new.me.0.passes way goal to.0 to.1) }
-    ensures finds { IfErr result (λ found. (w : Walker (hand_calls S.Shape M.Machine M.left_dealt hand.entry))
+    ensures finds { IfErr result (λ found.
+        (w : Walker (hand_calls S.Shape M.Machine M.left_dealt hand.entry))
         → WalkerHasHead w seat.old.me.0.passes way goal place word
         → WalkerFinds w seat.new.me.0.passes way goal place.turns found) }
 {
@@ -355,10 +359,12 @@ fn descend_by_keys<S: Shape, M: CallMachine<S>>(
         (walk_left to.0.at (room way (shared_nodes (names hand.entry))))) }
     ensures steps { IfErr result (λ _. steps_made seat.new ≤ steps_made seat.old
         + walk_left first.at (room way (shared_nodes (names hand.entry)))) }
-    ensures told { IfOk result (λ to. (w : Walker (hand_calls S.Shape M.Machine M.left_dealt hand.entry))
+    ensures told { IfOk result (λ to.
+        (w : Walker (hand_calls S.Shape M.Machine M.left_dealt hand.entry))
         → WalkerHasHead w seat.old.me.0.passes way goal first head
         → WalkerHasHead w seat.new.me.0.passes way goal to.0 to.1) }
-    ensures finds { IfErr result (λ ends. (w : Walker (hand_calls S.Shape M.Machine M.left_dealt hand.entry))
+    ensures finds { IfErr result (λ ends.
+        (w : Walker (hand_calls S.Shape M.Machine M.left_dealt hand.entry))
         → WalkerHasHead w seat.old.me.0.passes way goal first head
         → WalkerFinds w seat.new.me.0.passes way goal ends.1 ends.0) }
 {
@@ -392,12 +398,13 @@ fn pass_open<S: Shape, M: CallMachine<S>>(
     requires table { IsAt hand seat.old }
     requires stands { AsksHead (hand_slots hand) trail at start }
     requires open { (head_of word).leaf ≡ false → asks_key goal (head_of word) ≡ false }
-    requires told { HasWalked S.Shape M.Machine M.left_dealt hand seat.old (way_at way goal trail at) word }
+    requires told { HasWalked S.Shape M.Machine M.left_dealt hand seat.old
+        (way_at way goal trail at) word }
     ensures table { StaysAtTable seat.old seat.new }
     ensures steps { MatchResult result (λ _. steps_made seat.new ≡ steps_made seat.old)
         (λ _. steps_made seat.new ≤ steps_made seat.old + 7) }
-    ensures down { IfOk result (λ to. WalkGoesDown S.Shape M.Machine M.left_dealt hand.entry seat.old
-        (way_at way goal trail at) word seat.new to.0 to.1) }
+    ensures down { IfOk result (λ to. WalkGoesDown S.Shape M.Machine M.left_dealt hand.entry
+        seat.old (way_at way goal trail at) word seat.new to.0 to.1) }
     ensures finds { IfErr result (WalkFinds S.Shape M.Machine M.left_dealt hand.entry seat.old
         (way_at way goal trail at) word seat.new) }
 {
@@ -424,8 +431,8 @@ fn to_goal_from<S: Shape, M: CallMachine<S>>(
     ensures table { StaysAtTable seat.old seat.new }
     ensures steps { steps_made seat.new ≤ steps_made seat.old
         + suc (walk_left first.at (room way (shared_nodes (names hand.entry)))) }
-    ensures finds { WalkEndsFrom S.Shape M.Machine M.left_dealt hand.entry seat.old way goal first seat.new
-        result.1 result.0 }
+    ensures finds { WalkEndsFrom S.Shape M.Machine M.left_dealt hand.entry seat.old way goal first
+        seat.new result.1 result.0 }
 {
     let layout = *hand.layout;
     let hand = Hand {
@@ -470,8 +477,8 @@ pub(crate) fn to_goal<S: Shape, M: CallMachine<S>>(
     ensures table { StaysAtTable seat.old seat.new }
     ensures steps { steps_made seat.new ≤ steps_made seat.old
         + (3 * (2 + room way (shared_nodes (names hand.entry))) + 5) }
-    ensures finds { WalkEnds S.Shape M.Machine M.left_dealt hand.entry seat.old way goal seat.new result.1
-        result.0 }
+    ensures finds { WalkEnds S.Shape M.Machine M.left_dealt hand.entry seat.old way goal seat.new
+        result.1 result.0 }
 {
     to_goal_from::<S, M>(hand, seat, way, goal, Reached::root())
 }
@@ -493,8 +500,8 @@ pub(crate) fn call_from<S: Shape, M: CallMachine<S>, E: Edit>(
     ensures table { StaysAtTable seat.old seat.new }
     ensures steps { steps_made seat.new ≤ steps_made seat.old
         + suc (walk_left first.at (room way (shared_nodes (names hand.entry)))) }
-    ensures finds { WalkEndsFrom S.Shape M.Machine M.left_dealt hand.entry seat.old way goal first seat.new
-        result.1 result.0 }
+    ensures finds { WalkEndsFrom S.Shape M.Machine M.left_dealt hand.entry seat.old way goal first
+        seat.new result.1 result.0 }
 {
     match goal {
         Goal::Key(_) => to_goal_from::<S, M>(hand, seat, way, goal, first),

@@ -14,7 +14,7 @@ blocked : (g : Over) (c : After-copied g) (u : Updater (calls g.S.Shape g.M.Mach
 blocked g c u x = subst (λ (f : Found). UpdaterIsBlocked u c.args.seat.now.me.0.passes c.take_run-machine.result f c.args.scx c.args.help.now) (sym c.copied.ensures) (blocked_there u _ c.args.run.now c.take_run-machine.result c.args.found.now c.args.scx c.args.help.now c.take_run-machine.ensures x)
 
 pub take_run-machine-requires : goal.take_run-machine-requires
-take_run-machine-requires g c = record { some = has_passes c.requires.blocked.0 _ (names_are _ _ c.args.hand.of_table.1 c.args.hand.of_table.2) }
+take_run-machine-requires g c = record { some = has_passes c.requires.blocked.0 _ (names_are c.args.hand.words.now.table.shared.key c.args.hand.layout.now c.args.hand.of_table.1 c.args.hand.of_table.2) }
 
 pub rest_from_block-updated-requires-clause-blocked : goal.rest_from_block-updated-requires-clause-blocked
 rest_from_block-updated-requires-clause-blocked g c = let r = c.requires.blocked in (r.0, blocked g (goal.at.rest_from_block-updated-requires-clause-blocked g c).After-copied r.0 r.1)

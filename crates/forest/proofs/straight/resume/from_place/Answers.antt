@@ -11,7 +11,7 @@ use Rattle.forest.proofs.Slotted.{names_are}
 use Rattle.forest.proofs.straight.resume.from_place.Goals as goal
 
 pub take_run-machine-requires : goal.take_run-machine-requires
-take_run-machine-requires g c = record { some = has_passes c.requires.waits.0 _ (names_are _ _ c.args.hand.of_table.1 c.args.hand.of_table.2) }
+take_run-machine-requires g c = record { some = has_passes c.requires.waits.0 _ (names_are c.args.hand.words.now.table.shared.key c.args.hand.layout.now c.args.hand.of_table.1 c.args.hand.of_table.2) }
 
 pub rest_from-updated-requires-clause-waits : goal.rest_from-updated-requires-clause-waits
 rest_from-updated-requires-clause-waits g c = let r = c.requires.waits in (r.0, rw c.take_run-machine.ensures r.1)
