@@ -17,8 +17,9 @@ use std::alloc::Global;
 use std::fmt;
 use std::marker::{Model, PhantomData};
 
-/// A part in a forest: a number, a share of the nodes and SCX-records, the run that it knows, and
-/// whom its calls have blamed. A thread has one, and gives it to each call.
+/// A part in a forest: a number, a share of the nodes and SCX-records, the run that it knows, whom
+/// its calls have blamed, and lists that its ordered reads fill. A thread has one, and gives it to
+/// each call.
 #[derive(Drop)]
 pub struct Pass<S: Shape> {
     pub(crate) number: PassNo,
@@ -43,7 +44,7 @@ impl<S: Shape> Model for Pass<S> {
 }
 
 impl<S: Shape> Pass<S> {
-    /// A pass that has made no step, at a seat of its own. The lists that it keeps grow with this
+    /// A pass that has made no step, at a seat of its own. Its lists are empty, and grow with this
     /// allocator.
     pub(crate) fn new(
         alloc: Global,

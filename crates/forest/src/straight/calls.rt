@@ -71,9 +71,9 @@ pub(crate) fn make<K: WordKey, V: WordValue, B: FixedBalance, G: EditGoal, R: Ed
     (of_update(goal, updated), share)
 }
 
-/// A range that has not begun, with room for what it keeps as a rule: for its pairs, and for the
-/// forks above them and on the way to them. Where that is refused, its lists grow as they are
-/// filled.
+/// A range that has not begun, with the lists of this room: long enough for what it keeps as a
+/// rule, which is its pairs, and the forks above them and on the way to them. Where that is refused,
+/// they grow as they are filled.
 #[inline(always)]
 fn range_run(
     room: &mut Room,
@@ -122,8 +122,8 @@ fn told_range<K: WordKey, V: WordValue>(
     }
 }
 
-/// Looks with so many tries for the pair beside a key on this side, and takes nothing of a share. What
-/// it keeps grows with this allocator.
+/// Looks with so many tries for the pair beside a key on this side, and takes nothing of a share. It
+/// fills a list of the room.
 #[inline(always)]
 fn neighbour<K: WordKey, V: WordValue, B: FixedBalance>(
     hand: Hand<Dict<K, V, B>>,
@@ -160,8 +160,8 @@ fn neighbour<K: WordKey, V: WordValue, B: FixedBalance>(
     of_neighbour(told)
 }
 
-/// Makes an ordered read with `tries` tries, which takes nothing of a share. What it keeps grows
-/// with this allocator.
+/// Makes an ordered read with `tries` tries, which takes nothing of a share. It fills the lists of
+/// the room; what a range replies grows with this allocator.
 #[inline(always)]
 pub(crate) fn read<K: WordKey, V: WordValue, B: FixedBalance>(
     hand: Hand<Dict<K, V, B>>,
