@@ -1,5 +1,5 @@
 -- What all passes together know of the words at the end.
-use Rattle.std.proofs.Common.{◌≡◌, ℕ, zero, suc, inl, inr, List, [], ◌∷◌, ◌++◌, slice_index, refl, sym, ◌∙◌, ap, subst}
+use Rattle.std.proofs.Common.{◌≡◌, ℕ, zero, suc, inl, inr, List, [], ◌∷◌, ◌++◌, None, slice_index, refl, sym, ◌∙◌, ap, subst}
 use mathlib.Core.Option.{some, some-injective, some-ne-none}
 use lib.ListN.{get_elem?}
 use Rattle.std.specs.List.{All}
@@ -10,9 +10,12 @@ use Rattle.histories.specs.Common.{Layout, Row, Word, place, IsWord, child, Hist
 use Rattle.arena.proofs.Lemmas.{ends_trans}
 use Rattle.histories.proofs.Lemmas.{fields_are, lawful_since}
 use Rattle.forest.specs.declared.rule.Plot.{Plot}
+use Rattle.forest.specs.declared.rule.Site.{Site}
 use Rattle.forest.specs.declared.view.SeatedPass.{SeatedPass}
 use Rattle.forest.specs.declared.view.SeatView.{SeatView}
 use Rattle.forest.specs.declared.pass.Pass.TheInside.{Inside}
+use Rattle.forest.specs.Ruled.{IsRuled}
+use Rattle.forest.specs.Slotted.{names_of_table}
 use Rattle.forest.specs.TableRule.{history_of, seated_pass, look, after_look, Made, TableIsLawful, Owns, Behind, plot_of, HasLookedBehind}
 use Rattle.forest.specs.Traces.{known_of, planting_of, memory_of, run_at, rows_of}
 use Rattle.prims.specs.Shares.{IsShare}
@@ -26,6 +29,8 @@ use Rattle.prims.proofs.Lemmas.{next_unwon}
 use Rattle.forest.proofs.Calls.{IsQuiet, quiet_start, quiet_other}
 use Rattle.forest.proofs.Blames.{blames_left}
 use Rattle.forest.proofs.Passes.{HasOnlyLoaded, seated, called_pass, called_nothing}
+use Rattle.forest.proofs.Ruled.{plain_plot, ruled_from}
+use Rattle.forest.proofs.Slotted.{names_are}
 use Rattle.forest.proofs.Meets.{look_called, look_looks, look_steps}
 
 -- the element of a list, by either way to read it
@@ -175,3 +180,10 @@ closes {allows} id plot ds seat v words slots of a f =
       begun = all_begun plot kept.run ds all;
       blamed = all_left plot kept.run ds kept.sound.lawful all;
     }
+
+-- so it is of a table whose records have places of their own
+pub closes_site : {allows : Layout → History → ℕ → Type 0} (id : _) (site : Site) (lay : Layout) → site.layout ≡ lay → site.turns ≡ None → (ds : List PassView) (seat : ℕ) (v : SeatView) (words : List ℕ) (slots : List ℕ) → All (IsOn id (names_of_table site)) ds → AreIn allows ds v.passes → Final (Seen (IsRuled allows site) seat v) words slots → IsClosed allows (names_of_table site) ds (record { layout = lay; words = words })
+closes_site {allows} id site lay same once ds seat v words slots of a f =
+    let named : names_of_table site ≡ lay = names_are site lay same once in
+    let closed : IsClosed allows site.layout ds (record { layout = site.layout; words = words }) = closes id (plain_plot allows site) ds seat v words slots (subst (λ (l : Layout). All (IsOn id l) ds) (named ∙ sym same) of) a (ruled_from allows site (λ holds. Final (Seen holds seat v) words slots) once f) in
+    subst (λ (l : Layout). IsClosed allows l ds (record { layout = lay; words = words })) (sym named) (subst (λ (l : Layout). IsClosed allows l ds (record { layout = l; words = words })) same closed)

@@ -10,7 +10,7 @@ use Rattle.forest.specs.declared.memory.PassMemory.{PassMemory}
 use Rattle.forest.specs.declared.rule.Plot.{Plot}
 use Rattle.forest.specs.declared.view.SeatedPass.{SeatedPass}
 use Rattle.forest.specs.declared.view.SeatView.{SeatView}
-use Rattle.forest.specs.TableRule.{TableIsLawful, Owns, Absent, no_memory, seat_view, new_passes, passes_with, rest_of_seat, first_of_seat, joined_seat, rest_of, first_of}
+use Rattle.forest.specs.TableRule.{TableIsLawful, Owns, Absent, all_dealt, seat_view, new_passes, passes_with, rest_of_seat, first_of_seat, joined_seat, rest_of, first_of}
 
 pub snoc_at : {A : Type 0} (l : List A) (a b : A) (j : ℕ) → get_elem? (l ++ a ∷ []) j ≡ some b → (get_elem? l j ≡ some b) ⊎ ((j ≡ length l) × (a ≡ b))
 snoc_at [] a b zero e = inr (refl, some-injective a b e)
@@ -143,6 +143,6 @@ module _ (allows : Layout → History → ℕ → Type 0) (plot : Plot) where
     owner = λ _. 0;
     passes = λ j u e. ⊎_elim
         (λ (t : get_elem? {A = SeatView} [] j ≡ some u). absurd (some-ne-none u (sym t)))
-        (λ (t : (j ≡ 0) × (seat_view (new_passes plot 0 n) ≡ u)). subst (λ x. Owns plot [] (λ _. 0) j x.passes) t.1 (subst (λ i. Owns plot [] (λ _. 0) i (new_passes plot 0 n)) (sym t.0) (owns_new (λ c. no_memory) plot 0 n)))
+        (λ (t : (j ≡ 0) × (seat_view (new_passes plot 0 n) ≡ u)). subst (λ x. Owns plot [] (λ _. 0) j x.passes) t.1 (subst (λ i. Owns plot [] (λ _. 0) i (new_passes plot 0 n)) (sym t.0) (owns_new (all_dealt plot.layout) plot 0 n)))
         (snoc_at [] (seat_view (new_passes plot 0 n)) u j e);
   }

@@ -26,14 +26,16 @@ use Rattle.dict.specs.declared.dict.DictRun.{DictRun}
 use Rattle.ordered_map.specs.declared.request.Request.{Request}
 use Rattle.ordered_map.specs.declared.request.Request.TheVariants as requests
 use Rattle.ordered_map.specs.declared.reply.Reply.TheVariants as replies
+use Rattle.forest.specs.declared.memory.PassMemory.{PassMemory}
 use Rattle.forest.specs.declared.view.SeatView.{SeatView}
+use Rattle.forest.specs.CallSteps.{HasDictLeft}
 use Rattle.forest.specs.declared.pass.Pass.TheInside.{Inside}
 use Rattle.forest.specs.Dictionary.{IsToldOf, IsRefusalOf, HasSpentAtMost, blamed_by_reply}
 use Rattle.forest.specs.StraightCalls.{IsFreshCall, IsSameDictCall, SeatCallBegins}
 use Rattle.forest.specs.Passes.{PassView, HasBlamed, HasGoneOn, run_of, taken_of}
 use Rattle.forest.specs.PassInvariant.{pass_view, IsPass}
-use Rattle.forest.specs.Shares.{IsBetweenCalls}
-use Rattle.forest.specs.Traces.{CallBegins, HoldsForCall, Trace, known_of, seat_steps, planting_of}
+use Rattle.forest.specs.Shares.{EndsAsDealt, IsBetweenCalls}
+use Rattle.forest.specs.Traces.{CallBegins, HoldsForCall, Trace, known_of, memory_of, seat_steps, planting_of}
 use Rattle.forest.proofs.Blames.{blamed_later, blamed_on_map}
 use Rattle.forest.proofs.Versions.{told_says, lost_says, full_says, nothing_says}
 use Rattle.forest.proofs.Calls.{course_keeps}
@@ -83,8 +85,8 @@ module _ {K V : Type 0} (valid_key : K → Type 0) (key : K → ℕ) (valid_valu
   IsSameCall old now = (call_in now.run ≡ call_in old.run) × (now.tries ≡ old.tries) × KeepsEnd old.run now.run
 
   -- a call that has not begun may begin, with the pass's share
-  pub dict_starts : {trie : Bool} {T : Type 0} (p : Inside T) (x : IsPass allows (map_mode trie) p) (m : DictRun K V) → trie_in m.run ≡ trie → IsTypedCall keys values (call_in m.run) → IsUnbegun m.run m.tries (taken_of (pass_view p)) → IsFewCall (call_in m.run) → share_of m.run ≡ p.share → CallBegins allows (DictIsReady keys values) (call_of p x (taken_of (pass_view p))) p.seat.me.0.passes m
-  dict_starts p x m tree typed unbegun few share = begun_with p x (taken_of (pass_view p)) (dict_begins keys values m (call_of p x (taken_of (pass_view p))) (x.is_mode ∙ ap map_mode (sym tree)) x.sound typed unbegun few (rw share rests))
+  pub dict_starts : {trie : Bool} {T : Type 0} (p : Inside T) (x : IsPass allows (map_mode trie) p) (m : DictRun K V) → trie_in m.run ≡ trie → IsTypedCall keys values (call_in m.run) → IsUnbegun m.run m.tries (taken_of (pass_view p)) → IsFewCall (call_in m.run) → share_of m.run ≡ p.share → CallBegins allows (DictIsReady keys values) HasDictLeft (call_of p x (taken_of (pass_view p))) p.seat.me.0.passes m
+  dict_starts {trie} p x m tree typed unbegun few share = begun_with p x (taken_of (pass_view p)) (ap share_end share ∙ x.dealt (dict_mode p.layout.mode trie x.is_mode)) (dict_begins keys values m (call_of p x (taken_of (pass_view p))) (x.is_mode ∙ ap map_mode (sym tree)) x.sound typed unbegun few (rw share rests))
     where
       rests : RestsWith (call_of p x (taken_of (pass_view p))) (call_of p x (taken_of (pass_view p))).start p.share
       rests = record { share = x.rest.share; over = all_over p.layout _ p.number.0 p.share p.share.next_node p.share.next_scx x.rest.share x.rest.over }
@@ -97,11 +99,11 @@ module _ {K V : Type 0} (valid_key : K → Type 0) (key : K → ℕ) (valid_valu
   typed_read (Get key) x = absurd x
 
   -- so may the machine of a request
-  pub request_starts : {trie : Bool} {T : Type 0} (p : Inside T) (x : IsPass allows (map_mode trie) p) (m : DictRun K V) (request : Request K V) (tries number : ℕ) → taken_of (pass_view p) ≡ number → call_in m.run ≡ as_map_call key value_word request → trie_in m.run ≡ trie → IsTypedCall keys values (call_in m.run) → m.tries ≡ tries → IsUnbegun m.run tries number → AsksForFew request → share_of m.run ≡ p.share → CallBegins allows (DictIsReady keys values) (call_of p x (taken_of (pass_view p))) p.seat.me.0.passes m
+  pub request_starts : {trie : Bool} {T : Type 0} (p : Inside T) (x : IsPass allows (map_mode trie) p) (m : DictRun K V) (request : Request K V) (tries number : ℕ) → taken_of (pass_view p) ≡ number → call_in m.run ≡ as_map_call key value_word request → trie_in m.run ≡ trie → IsTypedCall keys values (call_in m.run) → m.tries ≡ tries → IsUnbegun m.run tries number → AsksForFew request → share_of m.run ≡ p.share → CallBegins allows (DictIsReady keys values) HasDictLeft (call_of p x (taken_of (pass_view p))) p.seat.me.0.passes m
   request_starts p x m request tries number named call tree typed same fresh few share = dict_starts p x m tree typed (rw (same, named) fresh) (few_of key value_word request (call_in m.run) call few) share
 
   -- and so may a machine of a call of its own
-  pub call_starts : {trie : Bool} {T : Type 0} (p : Inside T) (x : IsPass allows (map_mode trie) p) (m : DictRun K V) (call : MapCall) (tries number : ℕ) → taken_of (pass_view p) ≡ number → IsTypedCall keys values call → IsFewCall call → IsFreshCall trie call p.share tries number m → CallBegins allows (DictIsReady keys values) (call_of p x (taken_of (pass_view p))) p.seat.me.0.passes m
+  pub call_starts : {trie : Bool} {T : Type 0} (p : Inside T) (x : IsPass allows (map_mode trie) p) (m : DictRun K V) (call : MapCall) (tries number : ℕ) → taken_of (pass_view p) ≡ number → IsTypedCall keys values call → IsFewCall call → IsFreshCall trie call p.share tries number m → CallBegins allows (DictIsReady keys values) HasDictLeft (call_of p x (taken_of (pass_view p))) p.seat.me.0.passes m
   call_starts p x m call tries number named typed few fresh = dict_starts p x m fresh.in_trie (rw fresh.is_call typed) (rw (fresh.has_tries, named) fresh.unbegun) (rw fresh.is_call few) fresh.has_share
 
   -- so may any machine of an ordered read that has not begun
@@ -118,7 +120,7 @@ module _ {K V : Type 0} (valid_key : K → Type 0) (key : K → ℕ) (valid_valu
     Answered h = DictAnswers valid_key key valid_value value_word m (call_of p x called) h reply
 
     -- how it has ended
-    pub dict_ended : (first : DictRun K V) → HoldsForCall allows s.me.0.passes (call_of p x called) (λ h. Answered h × Trace allows (DictWaits keys values) (IsSameDictCall valid_key key valid_value value_word) (call_of p x called) first m h) → HasEnded allows p s called Answered × IsSameCall first m
+    pub dict_ended : {left : PassMemory → Type 0} (first : DictRun K V) → HoldsForCall allows left s.me.0.passes (call_of p x called) (λ h. Answered h × Trace allows (DictWaits keys values) (IsSameDictCall valid_key key valid_value value_word) (call_of p x called) first m h) → HasEnded allows p s called Answered × IsSameCall first m
     dict_ended first y = (
       ended p x s called (DictWaits keys values) (IsSameDictCall valid_key key valid_value value_word) first m Answered y,
       course_keeps (λ (k : DictRun K V). IsSameCall first k) (refl, refl, refl) (λ old now e q. (e.0 ∙ q.0, e.1 ∙ q.1, e.4 ∙ q.2)) m _ y.so.1,
@@ -161,8 +163,8 @@ module _ {K V : Type 0} (valid_key : K → Type 0) (key : K → ℕ) (valid_valu
               blamed_on_map (pass_view p) (pass_view (left_with p x s called Answered (share_of m.run) (u.0 ∷ p.blamed))) n.0 u.0 (dict_mode p.layout.mode trie x.is_mode) refl refl refl y.sound.lawful y.since way.others way.in_the_way way.over_or_new x.blamed
 
       -- it is a pass again
-      pub dict_pass : s.me.1 ≡ p.seat.me.1 → IsPass allows (map_mode trie) behind
-      dict_pass bare = ended_pass p x s called Answered (share_of m.run) (blamed_by_reply reply p.blamed) bare y rest dict_blames
+      pub dict_pass : EndsAsDealt (share_of m.run) (memory_of s.me.0.passes) → s.me.1 ≡ p.seat.me.1 → IsPass allows (map_mode trie) behind
+      dict_pass dealt bare = ended_pass p x s called Answered (share_of m.run) (blamed_by_reply reply p.blamed) bare y rest (λ map. dealt) dict_blames
 
       -- and its run is extended
       pub dict_goes_on : (few most : ℕ) → s.table_id ≡ p.seat.table_id → seat_steps s.me.0.passes ≤ seat_steps p.seat.me.0.passes + few → few ≤ most → HasGoneOn allows (pass_view p) now called most (blamed_by_reply reply p.blamed)

@@ -2,6 +2,7 @@
 -- both are known of the call's end alone, without its course.
 use Rattle.std.proofs.Common.{◌≡◌, ◌≢◌, ◌≤◌, ◌+◌, ℕ, inl, inr, List, ◌∷◌, Option, refl, sym, ◌∙◌, ap, subst, arith}
 use Rattle.atomic_table.specs.declared.shared.Seat.{Seat}
+use Rattle.arena.specs.Layout.{IsMap}
 use Rattle.histories.specs.Common.{Layout, Mode, Row, Step, Remaining, History, Opened, ◌⊳◌, Extends, IsOwnScx, HasWon, IsWin, Lawful, log, owner, Call, IsRun, descriptor}
 use Rattle.arena.proofs.Lemmas.{ends_self, ends_trans, owner_is}
 use Rattle.histories.proofs.Lemmas.{IsOwned, Logs, UpdateWins, entry_of, facts_before, lawful_row, lawful_since, lawful_tail, logs, same as log_same, update_about, update_is_first, update_win, wins as log_wins, won_since}
@@ -10,11 +11,12 @@ use Rattle.prims.proofs.Lemmas.{over_begins}
 use Rattle.ordered_map.specs.OrderedMap.{MapEdit}
 use Rattle.edits.specs.Known.{HasMade, RestsWith}
 use Rattle.edits.specs.Tries.{HasEnteredNone}
+use Rattle.forest.specs.declared.memory.PassMemory.{PassMemory}
 use Rattle.forest.specs.declared.view.SeatView.{SeatView}
 use Rattle.forest.specs.declared.pass.Pass.TheInside.{Inside}
 use Rattle.forest.specs.TableRule.{history_of}
-use Rattle.forest.specs.Traces.{IsSeated, Trace, HoldsForCall, seat_steps, run_at}
-use Rattle.forest.specs.Shares.{IsBetweenCalls, entries_of}
+use Rattle.forest.specs.Traces.{IsSeated, Trace, HoldsForCall, memory_of, seat_steps, run_at}
+use Rattle.forest.specs.Shares.{EndsAsDealt, IsBetweenCalls, entries_of}
 use Rattle.forest.specs.Passes.{AreOfCall, HasBlamed, HasGoneOn, IsLaterView, run_of}
 use Rattle.forest.specs.PassInvariant.{pass_view, IsPass}
 use Rattle.forest.proofs.Frames.{entry_mine, entry_others}
@@ -89,7 +91,7 @@ pub record HasEnded (allows : Layout → History → ℕ → Type 0) {T : Type 0
   pub answers : A (run_at s.me.0.passes)
   pub calls : AreOfCall p.number.0 number (run_at p.seat.me.0.passes) (run_at s.me.0.passes)
 
-pub ended : {allows : Layout → History → ℕ → Type 0} {mode : Mode} {T : Type 0} (p : Inside T) (x : IsPass allows mode p) (s : Seat ℕ SeatView) (number : ℕ) {M : Type 0} (waits : M → Call → History → Step → Type 0) (same : M → M → Type 0) (first m : M) (A : History → Type 0) → HoldsForCall allows s.me.0.passes (call_of p x number) (λ h. A h × Trace allows waits same (call_of p x number) first m h) → HasEnded allows p s number A
+pub ended : {allows : Layout → History → ℕ → Type 0} {mode : Mode} {T : Type 0} (p : Inside T) (x : IsPass allows mode p) (s : Seat ℕ SeatView) (number : ℕ) {M : Type 0} (waits : M → Call → History → Step → Type 0) (same : M → M → Type 0) (first m : M) (A : History → Type 0) {left : PassMemory → Type 0} → HoldsForCall allows left s.me.0.passes (call_of p x number) (λ h. A h × Trace allows waits same (call_of p x number) first m h) → HasEnded allows p s number A
 ended {allows} p x s number waits same first m A y =
     let run : history_of y.planting y.known ≡ run_at s.me.0.passes = sym (ap run_at y.is.alone) in
     record {
@@ -106,8 +108,8 @@ module _ {allows : Layout → History → ℕ → Type 0} {mode : Mode} {T : Typ
   left_with = record p { share = left; seat = s; blamed = blamed }
 
   -- it is a pass again
-  pub ended_pass : s.me.1 ≡ p.seat.me.1 → HasEnded allows p s number A → IsBetweenCalls p.layout p.number.0 (run_of (pass_view left_with)) left → HasBlamed (pass_view left_with) → IsPass allows mode left_with
-  ended_pass bare y rest blames = record { seat = y.seat; bare = bare ∙ x.bare; is_mode = x.is_mode; is_pass = x.is_pass; sound = y.sound; rest = rest; blamed = blames }
+  pub ended_pass : s.me.1 ≡ p.seat.me.1 → HasEnded allows p s number A → IsBetweenCalls p.layout p.number.0 (run_of (pass_view left_with)) left → (IsMap p.layout.mode → EndsAsDealt left (memory_of s.me.0.passes)) → HasBlamed (pass_view left_with) → IsPass allows mode left_with
+  ended_pass bare y rest dealt blames = record { seat = y.seat; bare = bare ∙ x.bare; is_mode = x.is_mode; is_pass = x.is_pass; sound = y.sound; rest = rest; dealt = dealt; blamed = blames }
 
   -- and its run is extended
   pub ended_goes_on : (few most : ℕ) → s.table_id ≡ p.seat.table_id → HasEnded allows p s number A → seat_steps s.me.0.passes ≤ seat_steps p.seat.me.0.passes + few → few ≤ most → IsBetweenCalls p.layout p.number.0 (run_of (pass_view left_with)) left → HasBlamed (pass_view left_with) → HasGoneOn allows (pass_view p) (pass_view left_with) number most blamed

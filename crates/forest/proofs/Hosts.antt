@@ -9,7 +9,7 @@ use Rattle.forest.proofs.Advances.{called_so, word_of}
 
 -- given what its step has found, or nothing yet, it is as its turn says
 pub told_on : {M N A : Type 0} {o : Calls M} {i : InnerCall N A} (k : Host o i) (ps : List SeatedPass) (m now : N) (got : Option ℕ) (turn : Turn A) → MatchTurn turn (λ _. i.goes m now) (λ _. i.ends m now) → ((h : History) → IsRun i.allows k.call.layout h → i.ready m k.call h got → MatchTurn turn (i.waits now k.call h) (i.answers now k.call h))
-    → HoldsForCall o.allows ps k.call (λ h. o.ready (k.with_run m) k.call h got × Trace o.allows o.waits o.same k.call k.first (k.with_run m) h) → HostedStands k ps now turn
+    → HoldsForCall o.allows (o.left_dealt k.first) ps k.call (λ h. o.ready (k.with_run m) k.call h got × Trace o.allows o.waits o.same k.call k.first (k.with_run m) h) → HostedStands k ps now turn
 told_on k ps m now got (Ask s) goes next x = record { planting = x.planting; known = x.known; is = x.is; sound = x.sound; so = (k.turns m now _ got s goes x.so.0 (next _ (k.runs _ x.sound) (k.tells m _ got x.so.0)), goes_on (k.with_run m) (k.stays m now goes) x.so.1) }
 told_on k ps m now got (Done a) goes next x = record { planting = x.planting; known = x.known; is = x.is; sound = x.sound; so = record { old = m; got = got; was = x.so.0; goes = goes; answers = next _ (k.runs _ x.sound) (k.tells m _ got x.so.0); course = x.so.1 } }
 
@@ -43,9 +43,9 @@ module _ {M A : Type 0} (o : Calls M) (answers : M → Call → History → A �
   }
 
   -- as its machine is, the call is
-  pub own_ends : (ps : List SeatedPass) (m : M) (a : A) → HostedEnds own ps m a → Ends o.allows o.waits o.same c ps first answers m a
+  pub own_ends : (ps : List SeatedPass) (m : M) (a : A) → HostedEnds own ps m a → Ends o.allows o.waits o.same o.left_dealt c ps first answers m a
   own_ends ps m a x = record { planting = x.planting; known = x.known; is = x.is; sound = x.sound; so = (x.so.answers, goes_on x.so.old x.so.goes x.so.course) }
 
-  pub own_stands : (ps : List SeatedPass) (m : M) (turn : Turn A) → HostedStands own ps m turn → Stands o.allows o.waits o.same c ps first answers m turn
+  pub own_stands : (ps : List SeatedPass) (m : M) (turn : Turn A) → HostedStands own ps m turn → Stands o.allows o.waits o.same o.left_dealt c ps first answers m turn
   own_stands ps m (Ask s) x = x
   own_stands ps m (Done a) x = own_ends ps m a x

@@ -20,7 +20,7 @@ use Rattle.slots.specs.Held.{IsHeld}
 use Rattle.slots.specs.Lasting.{Lasting, slot_of, table_place}
 use Rattle.slots.proofs.Lemmas.{name_record, untaken_zero}
 use Rattle.forest.specs.TableRule.{ByOthers, history_of, past_of, seat_view}
-use Rattle.forest.specs.LastingMemory.{IsOutForGood, IsHeldName, IsNoteSo, Present, RemembersNames, RemembersWell, record_at}
+use Rattle.forest.specs.LastingMemory.{IsHeldName, IsNoteSo, IsOutForGood, Present, RemembersNames, RemembersWell, StaysUnborn, record_at}
 use Rattle.forest.specs.LastingNotes.{IsAmongThese, memory_done, memory_looked_at, memory_over, noted_as}
 use Rattle.forest.specs.LastingRule.{LearnsWith, TableLasts}
 use Rattle.forest.specs.declared.view.SeatView.{SeatView}
@@ -30,7 +30,6 @@ use Rattle.forest.specs.declared.memory.NoteView.TheVariants.{DoneWith, MarkedOr
 use Rattle.forest.specs.declared.memory.RecordNo.TheVariants.{Scx}
 use Rattle.forest.specs.declared.rule.Plot.{Plot}
 use Rattle.forest.specs.declared.view.SeatedPass.{SeatedPass}
-use Rattle.forest.proofs.LastingKept.{StaysUnborn}
 use Rattle.forest.proofs.LastingGhosts.{in_each, noted}
 use Rattle.forest.proofs.LastingSeats.{aware, behind_known, learnt, now, over, own, well}
 use Rattle.forest.proofs.LastingTrees.{taken_discrete}

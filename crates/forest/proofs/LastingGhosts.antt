@@ -14,14 +14,14 @@ use Rattle.slots.specs.Window.{IsWindow}
 use Rattle.slots.proofs.Lemmas.{seen_moves}
 use Rattle.forest.specs.Passes.{Each}
 use Rattle.forest.specs.TableRule.{Owns, history_of, seat_view, seated_pass}
-use Rattle.forest.specs.LastingMemory.{IsNoteSo, Present, RememberWell, RemembersNames, RemembersWell, present, record_at}
+use Rattle.forest.specs.LastingMemory.{IsNoteSo, Present, RememberWell, RemembersNames, RemembersWell, StaysUnborn, present, record_at}
 use Rattle.forest.specs.LastingNotes.{IsAmongThese}
 use Rattle.forest.specs.LastingRule.{TableLasts, WordsLast, plot_in}
 use Rattle.forest.specs.declared.view.SeatView.{SeatView}
 use Rattle.forest.specs.declared.memory.Noted.{Noted}
 use Rattle.forest.specs.declared.memory.PassMemory.{PassMemory}
 use Rattle.forest.specs.declared.view.SeatedPass.{SeatedPass}
-use Rattle.forest.proofs.LastingKept.{Later, Spares, StaysUnborn, remember_kept, remembers_kept, spared, views_kept}
+use Rattle.forest.proofs.LastingKept.{Later, Spares, remember_kept, remembers_kept, spared, views_kept}
 use Rattle.forest.proofs.LastingSeats.{apart, now, own, set_self, well}
 
 -- what is so of each, is so of one of them

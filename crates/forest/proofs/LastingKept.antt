@@ -10,7 +10,6 @@ use Rattle.planting.specs.Plantings.{PlantingView}
 use Rattle.ordered_map.specs.Runs.{IsMapRun}
 use Rattle.ordered_map.proofs.MapLemmas.{run_since}
 use Rattle.touching.proofs.Lemmas.{left_since, taken_scx_since}
-use Rattle.resting.specs.Dead.{IsUnborn}
 use Rattle.resting.specs.Records.{Record, record_of, the_node, the_scx}
 use Rattle.resting.specs.Rests.{HasRestedAt, HaveMovedOn}
 use Rattle.resting.proofs.Lemmas.{out_anew, out_since, taken_node_since}
@@ -19,7 +18,7 @@ use Rattle.slots.specs.Held.{Held, IsHeld}
 use Rattle.slots.specs.Lasting.{IsOwnRecord, IsUntaken, Lasting}
 use Rattle.forest.specs.Passes.{Each}
 use Rattle.forest.specs.TableRule.{Owns, history_of}
-use Rattle.forest.specs.LastingMemory.{HasPolledSo, IsEmptySlot, IsOutForGood, IsGoneRecord, IsNoteSo, IsPollSo, IsZeroWord, Present, RememberWell, RemembersNames, RemembersWell, record_at}
+use Rattle.forest.specs.LastingMemory.{HasPolledSo, IsEmptySlot, IsGoneRecord, IsNoteSo, IsOutForGood, IsPollSo, IsZeroWord, Present, RememberWell, RemembersNames, RemembersWell, StaysUnborn, record_at}
 use Rattle.forest.specs.LastingRule.{plot_in}
 use Rattle.forest.specs.declared.view.SeatView.{SeatView}
 use Rattle.forest.specs.declared.memory.PassMemory.{PassMemory}
@@ -31,10 +30,6 @@ use Rattle.forest.specs.declared.view.SeatedPass.{SeatedPass}
 
 final_since : (lay : Layout) (h m : History) (n : ℕ) → Lawful lay h → Extends h m → is_final (log lay m) n ≡ true → is_final (log lay h) n ≡ true
 final_since lay h m n l e x = since (λ k. is_final (log lay k) n ≡ true) lay (λ k r more y. let z = final_by lay k n (lawful_tail lay k r more) y in by_final lay (r ⊳ k) n z.0 more (finalized_by_stays lay k r n z.0 more z.1)) h m l e x
-
--- what a pass has taken and was never put in stays so, if it rests
-abbrev pub StaysUnborn : Layout → Type 0
-StaysUnborn lay = (h : History) (p : ℕ) (rest : History) (n : ℕ) → p < lay.passes → IsMapRun lay h → HasRestedAt lay h p rest → IsUnborn lay p rest n → IsUnborn lay p h n
 
 -- a table is here, and later there
 pub record Later (t : Lasting) (a b : Present) : Type 0 where

@@ -12,14 +12,14 @@ use Rattle.slots.specs.Counts.{HasPolled, HasSeenRests, rests_place}
 use Rattle.slots.specs.Lasting.{Lasting}
 use Rattle.slots.proofs.Lemmas.{finds_away, polls, seen_now}
 use Rattle.forest.specs.TableRule.{history_of, seat_view}
-use Rattle.forest.specs.LastingMemory.{HasPolledSo, IsPollSo, Present, RemembersNames, RemembersWell, present}
+use Rattle.forest.specs.LastingMemory.{HasPolledSo, IsPollSo, Present, RemembersNames, RemembersWell, StaysUnborn, present}
 use Rattle.forest.specs.LastingNotes.{IsAmongThese, memory_looked, memory_polled, waits_of}
 use Rattle.forest.specs.LastingRule.{LearnsWith, TableLasts}
 use Rattle.forest.specs.declared.view.SeatView.{SeatView}
 use Rattle.forest.specs.declared.memory.PassMemory.{PassMemory}
 use Rattle.forest.specs.declared.memory.Polled.{Polled}
 use Rattle.forest.specs.declared.view.SeatedPass.{SeatedPass}
-use Rattle.forest.proofs.LastingKept.{Later, StaysUnborn, names_kept, spared}
+use Rattle.forest.proofs.LastingKept.{Later, names_kept, spared}
 use Rattle.forest.proofs.LastingGhosts.{as_loaded, goes_on, in_each, later_moments, noted, seen_by}
 use Rattle.forest.proofs.LastingRests.{all_gone}
 use Rattle.forest.proofs.LastingSeats.{aware, learnt, now, well}

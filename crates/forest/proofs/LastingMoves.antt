@@ -15,7 +15,7 @@ use Rattle.slots.specs.Lasting.{IsOwnRecord, IsUntaken, Lasting, table_place}
 use Rattle.slots.specs.Window.{IsHeldStep, IsWindow}
 use Rattle.slots.proofs.Lemmas.{counts_rows, counts_stores, empty_apart, seen_rows, steps, untaken_fills}
 use Rattle.forest.specs.TableRule.{history_of, Made, Owns, past_of, row, seat_view, seated_pass}
-use Rattle.forest.specs.LastingMemory.{AreHeldOrGone, IsOutForGood, Present, RememberWell, RemembersWell, present}
+use Rattle.forest.specs.LastingMemory.{AreHeldOrGone, IsOutForGood, Present, RememberWell, RemembersWell, StaysUnborn, present}
 use Rattle.forest.specs.LastingRule.{MayStepOn, TableLasts, plot_in}
 use Rattle.forest.specs.declared.view.SeatView.{SeatView}
 use Rattle.forest.specs.declared.memory.PassMemory.{PassMemory}
@@ -23,7 +23,7 @@ use Rattle.forest.specs.declared.rule.CallStep.{CallStep}
 use Rattle.forest.specs.declared.rule.Plot.{Plot}
 use Rattle.forest.specs.declared.view.SeatedPass.{SeatedPass}
 use Rattle.forest.proofs.Moves.{owns_more}
-use Rattle.forest.proofs.LastingKept.{Later, StaysUnborn, gone_kept, remember_kept, remembers_kept, spared, views_kept}
+use Rattle.forest.proofs.LastingKept.{Later, gone_kept, remember_kept, remembers_kept, spared, views_kept}
 
 -- the table with one row more, and a word that it has stored
 row_later : (t : Lasting) (now : Present) (r : Row) (words : List ℕ) → IsWindow t words (r ⊳ now.run) now.last now.held → Later t now (present words (r ⊳ now.run) now.last now.held now.tally)

@@ -13,7 +13,7 @@ use Rattle.resting.specs.Rests.{AreSince, HaveRestedAt}
 use Rattle.slots.specs.Lasting.{Lasting}
 use Rattle.forest.specs.Passes.{Each}
 use Rattle.forest.specs.TableRule.{history_of, seat_view}
-use Rattle.forest.specs.LastingMemory.{IsGoneRecord, IsNoteSo, IsPollSo, Present, RemembersWell, record_at}
+use Rattle.forest.specs.LastingMemory.{IsGoneRecord, IsNoteSo, IsPollSo, Present, RemembersWell, StaysUnborn, record_at}
 use Rattle.forest.specs.LastingNotes.{HasSeenAllRest, IsBefore, IsAmongThese, further, further_all, memory_noted, rested_poll}
 use Rattle.forest.specs.LastingRule.{LearnsWith, TableLasts}
 use Rattle.forest.specs.declared.view.SeatView.{SeatView}
@@ -23,7 +23,6 @@ use Rattle.forest.specs.declared.memory.NoteView.{NoteView}
 use Rattle.forest.specs.declared.memory.NoteView.TheVariants.{MarkedOrDead, DeadBy, OutOfReach, DoneWith}
 use Rattle.forest.specs.declared.rule.Plot.{Plot}
 use Rattle.forest.specs.declared.view.SeatedPass.{SeatedPass}
-use Rattle.forest.proofs.LastingKept.{StaysUnborn}
 use Rattle.forest.proofs.LastingGhosts.{in_each, noted, with_notes}
 use Rattle.forest.proofs.LastingSeats.{aware, learnt, now, own, well}
 

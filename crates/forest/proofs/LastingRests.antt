@@ -15,13 +15,13 @@ use Rattle.slots.specs.Lasting.{Lasting}
 use Rattle.slots.specs.Window.{IsWindow}
 use Rattle.slots.proofs.Lemmas.{leaves, place_inside, rest_other, rest_same, rests_more, seen_leaves, seen_rests}
 use Rattle.forest.specs.TableRule.{history_of, Owns, past_of, seat_view}
-use Rattle.forest.specs.LastingMemory.{AreHeldOrGone, Present, RememberWell, RemembersNames, RemembersWell, present}
+use Rattle.forest.specs.LastingMemory.{AreHeldOrGone, Present, RememberWell, RemembersNames, RemembersWell, StaysUnborn, present}
 use Rattle.forest.specs.LastingNotes.{memory_away, memory_rested}
 use Rattle.forest.specs.LastingRule.{LearnsWith, LearnsWith, TableLasts, plot_in}
 use Rattle.forest.specs.declared.view.SeatView.{SeatView}
 use Rattle.forest.specs.declared.memory.PassMemory.{PassMemory}
 use Rattle.forest.specs.declared.view.SeatedPass.{SeatedPass}
-use Rattle.forest.proofs.LastingKept.{Later, StaysUnborn, gone_kept, names_kept, spared}
+use Rattle.forest.proofs.LastingKept.{Later, gone_kept, names_kept, spared}
 use Rattle.forest.proofs.LastingGhosts.{goes_on}
 use Rattle.forest.proofs.LastingSeats.{aware, learnt, now, over, well}
 

@@ -17,7 +17,7 @@ use Rattle.resting.specs.Dead.{HasLeftUnmarked}
 use Rattle.touching.proofs.Lemmas.{left_since}
 use Rattle.slots.specs.Held.{IsHeld}
 use Rattle.forest.specs.TableRule.{history_of, past_of, seat_view}
-use Rattle.forest.specs.LastingMemory.{IsGoneRecord, IsHeldName, Present, RemembersWell, record_at}
+use Rattle.forest.specs.LastingMemory.{IsGoneRecord, IsHeldName, Present, RemembersWell, StaysUnborn, record_at}
 use Rattle.forest.specs.LastingNotes.{IsAmongThese, IsUnneeded, memory_marked, memory_unused, noted_as, memory_left}
 use Rattle.forest.specs.LastingRule.{LearnsWith, TableLasts, LoadsWord}
 use Rattle.forest.specs.declared.view.SeatView.{SeatView}
@@ -27,7 +27,6 @@ use Rattle.forest.specs.declared.memory.RecordNo.{RecordNo}
 use Rattle.forest.specs.declared.memory.RecordNo.TheVariants.{Node}
 use Rattle.forest.specs.declared.rule.Plot.{Plot}
 use Rattle.forest.specs.declared.view.SeatedPass.{SeatedPass}
-use Rattle.forest.proofs.LastingKept.{StaysUnborn}
 use Rattle.forest.proofs.LastingGhosts.{in_each, noted, with_notes}
 use Rattle.forest.proofs.LastingSeats.{aware, behind_known, learnt, now, own, well}
 use Rattle.forest.proofs.LastingSlots.{taken_since}

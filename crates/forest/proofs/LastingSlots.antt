@@ -21,7 +21,7 @@ use Rattle.slots.specs.Window.{IsWindow}
 use Rattle.slots.proofs.Lemmas.{cleans, counts_stores, lets_go, place_inside, record_discrete, with_other, with_same}
 use Rattle.forest.specs.Passes.{Each}
 use Rattle.forest.specs.TableRule.{history_of, past_of, seat_view}
-use Rattle.forest.specs.LastingMemory.{AreHeldOrGone, IsDealt, IsEmptySlot, IsOutForGood, IsGoneRecord, IsHeldName, IsNoteSo, IsZeroWord, Present, RemembersNames, RemembersWell, present, record_at}
+use Rattle.forest.specs.LastingMemory.{AreHeldOrGone, IsDealt, IsEmptySlot, IsGoneRecord, IsHeldName, IsNoteSo, IsOutForGood, IsZeroWord, Present, RemembersNames, RemembersWell, StaysUnborn, present, record_at}
 use Rattle.forest.specs.LastingNotes.{IsAmongThese, noted_as}
 use Rattle.forest.specs.LastingRule.{LearnsWith, TableLasts}
 use Rattle.forest.specs.LastingSlots.{IsLastDealt, IsNotBefore, memory_cleared, memory_given_back, memory_let_go, memory_without, of_others, slot_number}
@@ -32,7 +32,7 @@ use Rattle.forest.specs.declared.memory.RecordNo.{RecordNo}
 use Rattle.forest.specs.declared.memory.RecordNo.TheVariants.{Node, Scx}
 use Rattle.forest.specs.declared.rule.Plot.{Plot}
 use Rattle.forest.specs.declared.view.SeatedPass.{SeatedPass}
-use Rattle.forest.proofs.LastingKept.{Later, Spares, StaysUnborn, each_kept, note_kept, poll_kept}
+use Rattle.forest.proofs.LastingKept.{Later, Spares, each_kept, note_kept, poll_kept}
 use Rattle.forest.proofs.LastingGhosts.{as_loaded, goes_on, in_each, later_moments, moments_stay, seen_by}
 use Rattle.forest.proofs.LastingSeats.{aware, behind_known, learnt, now, own, share_now, well}
 

@@ -19,7 +19,7 @@ use Rattle.slots.proofs.Lemmas.{none_passed, passes_over, record_discrete, rest_
 use Rattle.forest.specs.LastingSlots.{IsNotBefore}
 use Rattle.forest.specs.Passes.{Each}
 use Rattle.forest.specs.TableRule.{history_of, Owns, seat_view, seated_pass}
-use Rattle.forest.specs.LastingMemory.{AreHeldOrGone, IsDealt, IsEmptySlot, IsOutForGood, IsZeroWord, Present, RemembersNames, RemembersWell, present, record_at}
+use Rattle.forest.specs.LastingMemory.{AreHeldOrGone, IsDealt, IsEmptySlot, IsOutForGood, IsZeroWord, Present, RemembersNames, RemembersWell, StaysUnborn, present, record_at}
 use Rattle.forest.specs.LastingNames.{MayGiveName, memory_with, memory_with_node, memory_with_scx, node_ahead, past_nodes, past_scxs, scx_ahead}
 use Rattle.forest.specs.LastingRule.{GoesOnWith, TableLasts, plot_in, LearnsWith}
 use Rattle.forest.specs.declared.view.SeatView.{SeatView}
@@ -27,7 +27,7 @@ use Rattle.forest.specs.declared.memory.PassMemory.{PassMemory}
 use Rattle.forest.specs.declared.memory.RecordNo.{RecordNo}
 use Rattle.forest.specs.declared.rule.Plot.{Plot}
 use Rattle.forest.specs.declared.view.SeatedPass.{SeatedPass}
-use Rattle.forest.proofs.LastingKept.{Later, Spares, StaysUnborn, each_kept, gone_kept, note_kept, poll_kept, untaken_before}
+use Rattle.forest.proofs.LastingKept.{Later, Spares, each_kept, gone_kept, note_kept, poll_kept, untaken_before}
 use Rattle.forest.proofs.LastingGhosts.{as_loaded, goes_on, in_each, seen_by}
 use Rattle.forest.proofs.LastingNames.{IsReady, PassesOn, PassedNodes, PassedScx, passes_all_scx, passes_nodes}
 use Rattle.forest.proofs.LastingRests.{moves_now}

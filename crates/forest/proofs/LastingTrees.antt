@@ -14,10 +14,9 @@ use Rattle.resting.specs.Rests.{HaveRestedAt}
 use Rattle.slots.specs.Held.{IsHeld}
 use Rattle.slots.specs.Lasting.{Lasting, table_place}
 use Rattle.forest.specs.TableRule.{history_of}
-use Rattle.forest.specs.LastingMemory.{IsOutForGood}
+use Rattle.forest.specs.LastingMemory.{IsOutForGood, StaysUnborn}
 use Rattle.forest.specs.LastingRule.{TableLasts}
 use Rattle.forest.specs.declared.view.SeatView.{SeatView}
-use Rattle.forest.proofs.LastingKept.{StaysUnborn}
 
 -- whether a node was taken
 

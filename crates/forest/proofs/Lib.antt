@@ -18,6 +18,8 @@ pub mod Copies
 pub mod AllBack
 pub mod Crowds
 mod Places
+mod Slotted
+pub mod Ruled
 mod Inside
 mod Hosts
 mod StraightLlx

@@ -1,10 +1,12 @@
 -- What a call of `llx` says.
 use Rattle.std.proofs.Common.{◌≡◌, ◌≢◌, ◌≤◌, ◌+◌, ℕ, true, List, ◌∷◌, None, refl, sym, ◌∙◌, ap, subst}
 use Rattle.atomic_table.specs.declared.shared.Seat.{Seat}
+use Rattle.arena.specs.Layout.{IsMap}
 use Rattle.histories.specs.Common.{NodeNo, Layout, Fill, History, is_final, Mode, Records}
 use Rattle.template.specs.Common.{IsSnapshot, HasJustLooked, LlxIsReady, LlxWaits, LlxAnswers, Llx, Snapshot, Finalized, Fail, LlxRun}
 use Rattle.prims.proofs.Lemmas.{llx_fills_not, ready_at_start, cell_opened, finalized_at_start, all_idle, alone_now, usable_now}
 use Rattle.prims.specs.declared.llx.LlxAt.TheVariants.{Start}
+use Rattle.forest.specs.declared.memory.PassMemory.{PassMemory}
 use Rattle.forest.specs.declared.view.SeatView.{SeatView}
 use Rattle.forest.specs.declared.pass.Pass.TheInside.{Inside}
 use Rattle.forest.specs.Traces.{Trace, HoldsForCall, seat_steps, run_at}
@@ -12,6 +14,7 @@ use Rattle.forest.specs.Passes.{HasGoneOn, HasTakenNothing, HoldsOfOwn, LlxSays,
 use Rattle.forest.specs.PassInvariant.{pass_view, IsPass}
 use Rattle.forest.specs.StepKinds.{HasFilledNothing}
 use Rattle.forest.specs.StraightLlx.{llx_at, SeatLlxEnds}
+use Rattle.forest.specs.CallSteps.{AnyLeft, no_map_of_cells}
 use Rattle.forest.specs.TableRule.{history_of}
 use Rattle.forest.proofs.Called.{course_holds}
 use Rattle.forest.proofs.Calls.{course_keeps}
@@ -19,18 +22,18 @@ use Rattle.forest.proofs.Blames.{blamed_more}
 use Rattle.forest.proofs.Passes.{HasOnlyLoaded, begun_with, called_pass, called_goes_on, called_nothing, call_of, seated, called}
 
 -- a run of a cell that has not begun may begin
-pub llx_begins : {allows : Layout → History → ℕ → Type 0} {T : Type 0} (p : Inside T) (x : IsPass allows Records p) (number : ℕ) (m : LlxRun) → m.at ≡ Start → m.node.0 ≤ 8 → HoldsForCall allows p.seat.me.0.passes (call_of p x number) (λ h. ((call_of p x number).start ≡ h) × LlxIsReady allows m (call_of p x number) h None)
-llx_begins {allows} p x number m start small = begun_with p x number {P = λ h. LlxIsReady allows m (call_of p x number) h None}
+pub llx_begins : {allows : Layout → History → ℕ → Type 0} {T : Type 0} (p : Inside T) (x : IsPass allows Records p) (number : ℕ) (m : LlxRun) → m.at ≡ Start → m.node.0 ≤ 8 → HoldsForCall allows (AnyLeft m) p.seat.me.0.passes (call_of p x number) (λ h. ((call_of p x number).start ≡ h) × LlxIsReady allows m (call_of p x number) h None)
+llx_begins {allows} p x number m start small = begun_with p x number {P = λ h. LlxIsReady allows m (call_of p x number) h None} tt
     (ready_at_start allows m (call_of p x number) _ refl start (cell_opened p.layout _ m.node.0 x.is_mode small) (all_idle p.layout _ p.number.0 p.share _ _ x.sound.lawful x.rest.share x.rest.over))
 
 -- what its answer says
 abbrev pub Answered : {allows : Layout → History → ℕ → Type 0} {mode : Mode} {T : Type 0} (p : Inside T) → IsPass allows mode p → ℕ → NodeNo → Llx → History → Type 0
 Answered p x number node a h = (m : LlxRun) × (m.node ≡ node) × LlxAnswers m (call_of p x number) h a
 
-pub llx_called : {allows : Layout → History → ℕ → Type 0} {mode : Mode} {T : Type 0} (p : Inside T) (x : IsPass allows mode p) (number : ℕ) (s : Seat ℕ SeatView) (first m : LlxRun) (node : NodeNo) (a : Llx) → first.node ≡ node → HoldsForCall allows s.me.0.passes (call_of p x number) (λ h. LlxAnswers m (call_of p x number) h a × Trace allows (LlxWaits allows) (λ old now. now.node ≡ old.node) (call_of p x number) first m h) → HasOnlyLoaded allows p s number (Answered p x number node a)
+pub llx_called : {allows : Layout → History → ℕ → Type 0} {left : PassMemory → Type 0} {T : Type 0} (p : Inside T) (x : IsPass allows Records p) (number : ℕ) (s : Seat ℕ SeatView) (first m : LlxRun) (node : NodeNo) (a : Llx) → first.node ≡ node → HoldsForCall allows left s.me.0.passes (call_of p x number) (λ h. LlxAnswers m (call_of p x number) h a × Trace allows (LlxWaits allows) (λ old now. now.node ≡ old.node) (call_of p x number) first m h) → HasOnlyLoaded allows p s number (Answered p x number node a)
 llx_called {allows} p x number s first m node a is y =
-    let z = called p x s number (LlxWaits allows) (λ old now. now.node ≡ old.node) first m (λ h. LlxAnswers m (call_of p x number) h a) (λ k h t w. llx_fills_not allows k (call_of p x number) h t w) y in
-    record { seat = z.seat; answers = (m, course_keeps (λ (k : LlxRun). k.node ≡ node) is (λ old now e q. e ∙ q) m _ y.so.1, z.answers); goes = z.goes; calls = z.calls }
+    let z = called p x s number (LlxWaits allows) (λ old now. now.node ≡ old.node) first m (λ h. LlxAnswers m (call_of p x number) h a) (λ map. no_map_of_cells (subst IsMap x.is_mode map)) (λ k h t w. llx_fills_not allows k (call_of p x number) h t w) y in
+    record { seat = z.seat; answers = (m, course_keeps (λ (k : LlxRun). k.node ≡ node) is (λ old now e q. e ∙ q) m _ y.so.1, z.answers); goes = z.goes; calls = z.calls; dealt = z.dealt }
 
 module _ {allows : Layout → History → ℕ → Type 0} {mode : Mode} {T : Type 0} (p : Inside T) (x : IsPass allows mode p) (number : ℕ) (s : Seat ℕ SeatView) (node : NodeNo) where
   -- the pass with its seat and its blame list as they are now
@@ -61,7 +64,7 @@ module _ {allows : Layout → History → ℕ → Type 0} {mode : Mode} {T : Typ
       go (Fail n u) z =
           let w = called_pass p x s number _ bare z in
           let more = blamed_more (pass_view p) (pass_view (heard (u.0 ∷ p.blamed))) node.0 u.0 refl refl refl w.sound.lawful z.goes.since (llx_says (u.0 ∷ p.blamed) (Fail n u) z).1 x.blamed in
-          record { seat = w.seat; bare = w.bare; is_mode = w.is_mode; is_pass = w.is_pass; sound = w.sound; rest = w.rest; blamed = more }
+          record { seat = w.seat; bare = w.bare; is_mode = w.is_mode; is_pass = w.is_pass; sound = w.sound; rest = w.rest; dealt = w.dealt; blamed = more }
 
   -- its run is extended, and it has taken nothing
   pub llx_goes_on : (a : Llx) (blamed : List ℕ) (left most : ℕ) → blamed ≡ blamed_by a p.blamed → s.table_id ≡ p.seat.table_id → s.me.1 ≡ p.seat.me.1 → HasOnlyLoaded allows p s number (Answered p x number node a) → seat_steps s.me.0.passes ≤ seat_steps p.seat.me.0.passes + left → left ≤ most → HasGoneOn allows (pass_view p) (pass_view (heard blamed)) number most (blamed_by a p.blamed)

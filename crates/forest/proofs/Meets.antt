@@ -8,7 +8,7 @@ use Rattle.arena.proofs.Lemmas.{ends_self, ends_trans}
 use Rattle.forest.specs.declared.view.SeatedPass.{SeatedPass}
 use Rattle.forest.specs.declared.view.SeatView.{SeatView}
 use Rattle.forest.specs.declared.pass.Pass.TheInside.{Inside}
-use Rattle.forest.specs.TableRule.{history_of, seated_pass, row, look, Looked, HasLookedBehind, Met, after_look, Behind, plot_of}
+use Rattle.forest.specs.TableRule.{dealt_to, history_of, seated_pass, row, look, Looked, HasLookedBehind, Met, after_look, Behind, plot_of}
 use Rattle.forest.specs.Traces.{known_of, rows_of, planting_of, rest_at, memory_of, run_at}
 use Rattle.forest.specs.Passes.{PassView, HoldsOfOwn, IsLook, HasLookedOnce, HaveLeftShares, IsLaterView, run_of, steps_of}
 use Rattle.forest.specs.PassInvariant.{pass_view, IsPass}
@@ -76,10 +76,11 @@ look_called {allows} p x s run y e =
     let before : IsRun allows p.layout (history_of planting (rows ++ known_of p.seat.me.0.passes)) = subst (λ l. IsRun allows p.layout (history_of planting l)) y.behind.1 y.before in
     let quiet = keeps_all allows p.layout p.number.0 (IsQuiet allows p.layout p.number.0 start p.share) planting (λ h r run other z. quiet_other allows p.layout p.number.0 start p.share x.is_pass h r run other z) rows (known_of p.seat.me.0.passes) y.behind.2 before (quiet_start allows p.layout p.number.0 start p.share x.sound x.rest) in
     record {
-      seat = seat_back s.me.0.passes p.number.0 p.layout planting (memory_of p.seat.me.0.passes) (r ∷ run) e (inr (ends_trans (history_of planting run) start (rest_at p.seat.me.0.passes) (behind_ends run (seated_pass p.number.0 p.layout planting (memory_of p.seat.me.0.passes) (known_of p.seat.me.0.passes)) y.behind) x.seat.since));
+      seat = seat_back s.me.0.passes p.number.0 p.layout planting (memory_of p.seat.me.0.passes) (r ∷ run) e (inr (ends_trans (history_of planting run) start (rest_at p.seat.me.0.passes) (behind_ends run (seated_pass p.number.0 p.layout planting (memory_of p.seat.me.0.passes) (known_of p.seat.me.0.passes)) y.behind) x.seat.since)) x.seat.there;
       answers = subst (λ h. Extends h (history_of planting run)) now (inr (ends_self (history_of planting run)));
       goes = subst (IsQuiet allows p.layout p.number.0 start p.share) now (quiet_step allows p.layout p.number.0 start p.share (history_of planting run) r y.after (λ k. cc) (subst (λ l. IsQuiet allows p.layout p.number.0 start p.share (history_of planting l)) (sym y.behind.1) quiet));
       calls = look_own p s run y.behind e (λ r. r.call ≡ 0) refl;
+      dealt = λ map. ap (λ ps. dealt_to (memory_of ps)) e;
     }
 
 -- so it has looked once

@@ -32,7 +32,7 @@ module _ {K V B : Type 0} (valid_key : K → Type 0) (key : K → ℕ) (valid_va
   module _ (first m : DictRun K V) (turn : Turn (Reply K V)) (number : ℕ) (named : number ≡ taken_of (pass_view p)) (had : share_of first.run ≡ p.share) (y : DictStands valid_key key valid_value value (call_of p x (taken_of (pass_view p))) p.seat.me.0.passes first m turn) (few : weight turn (map_left m.run (shared_nodes p.layout)) ≤ most_steps (call_in m.run) m.tries (nodes_by trie (shared_nodes p.layout))) (asks : AsksForPairs (call_in m.run) → MatchTurn turn (λ _. Unit {0}) (λ _. ⊥)) where
     as_seen : (seen : Snapshot PassView) → IsOpen valid_key key valid_value value trie (opened m turn number (record seen { value = pass_view p }))
     as_seen seen = record {
-      pass = record { seat = record { alone = refl; since = since_start (planting_of p.seat.me.0.passes) (known_of p.seat.me.0.passes) }; bare = refl; is_mode = x.is_mode; is_pass = x.is_pass; sound = x.sound; rest = x.rest; blamed = x.blamed };
+      pass = record { seat = record { alone = refl; since = since_start (planting_of p.seat.me.0.passes) (known_of p.seat.me.0.passes); there = refl }; bare = refl; is_mode = x.is_mode; is_pass = x.is_pass; sound = x.sound; rest = x.rest; dealt = λ map. refl; blamed = x.blamed };
       table = refl;
       bare = x.bare;
       kept = record { number = refl; layout = refl; call = named; blamed = refl };

@@ -14,11 +14,12 @@ use Rattle.forest.specs.Dictionary.{HasCalledIn, blamed_by_reply}
 use Rattle.forest.specs.OpenInvariant.{IsOpen, next_call, pass_as}
 use Rattle.forest.specs.Passes.{Ground, IsOf, steps_of}
 use Rattle.forest.specs.PassInvariant.{IsPass, pass_view}
+use Rattle.forest.specs.CallSteps.{HasDictLeft}
 use Rattle.forest.specs.Traces.{Stands, seat_steps}
 use Rattle.forest.specs.StraightCalls.{IsSameDictCall, SeatDictEnds}
 use Rattle.forest.proofs.DictCalls.{behind, dict_pass}
 use Rattle.forest.proofs.Passes.{steps_are}
-use Rattle.forest.proofs.WholeCalls.{ended, left_end, says}
+use Rattle.forest.proofs.WholeCalls.{ended, left_end, says, stays_dealt}
 
 abbrev numbered : ℕ → PassNo
 numbered n = record { 0 = n }
@@ -29,7 +30,7 @@ module _ {K V B : Type 0} (valid_key : K → Type 0) (key : K → ℕ) (valid_va
   was = pass_as o.began.value o.seat
 
   ends : SeatDictEnds valid_key key valid_value value_word (next_call o.began.value x.pass.is_pass) o.seat.me.0.passes x.first o.run reply
-  ends = subst (λ turn. Stands (TypedAllows (IsWordOf valid_key key) (IsWordOf valid_value value_word)) (DictWaits (IsWordOf valid_key key) (IsWordOf valid_value value_word)) (IsSameDictCall valid_key key valid_value value_word) (next_call o.began.value x.pass.is_pass) o.seat.me.0.passes x.first (DictAnswers valid_key key valid_value value_word) o.run turn) is x.stands
+  ends = subst (λ turn. Stands (TypedAllows (IsWordOf valid_key key) (IsWordOf valid_value value_word)) (DictWaits (IsWordOf valid_key key) (IsWordOf valid_value value_word)) (IsSameDictCall valid_key key valid_value value_word) HasDictLeft (next_call o.began.value x.pass.is_pass) o.seat.me.0.passes x.first (DictAnswers valid_key key valid_value value_word) o.run turn) is x.stands
 
   module _ (left : Remaining) (blamed : List ℕ) (gives : left ≡ share_of o.run.run) (blames : blamed ≡ blamed_by_reply reply o.blamed) where
     -- the pass that is given back
@@ -43,7 +44,7 @@ module _ {K V B : Type 0} (valid_key : K → Type 0) (key : K → ℕ) (valid_va
     back_is = rw (number_is, x.kept.layout, gives, blames, x.kept.blamed) refl
 
     pub open_pass : IsPass (TypedAllows (IsWordOf valid_key key) (IsWordOf valid_value value_word)) (map_mode trie) back
-    open_pass = subst (λ p. IsPass (TypedAllows (IsWordOf valid_key key) (IsWordOf valid_value value_word)) (map_mode trie) p) (sym back_is) (dict_pass valid_key key valid_value value_word trie was x.pass o.seat o.run reply (left_end valid_key key valid_value value_word trie was x.pass o.seat x.first o.run reply ends x.had) (ended valid_key key valid_value value_word trie was x.pass o.seat x.first o.run reply ends) x.bare)
+    open_pass = subst (λ p. IsPass (TypedAllows (IsWordOf valid_key key) (IsWordOf valid_value value_word)) (map_mode trie) p) (sym back_is) (dict_pass valid_key key valid_value value_word trie was x.pass o.seat o.run reply (left_end valid_key key valid_value value_word trie was x.pass o.seat x.first o.run reply ends x.had) (ended valid_key key valid_value value_word trie was x.pass o.seat x.first o.run reply ends) (stays_dealt valid_key key valid_value value_word trie was x.pass o.seat x.first o.run reply ends) x.bare)
 
     -- it has made the steps that were counted
     pub open_made : steps_of (pass_view back) ≡ steps_of o.began.value + (seat_steps o.seat.me.0.passes - steps_of o.began.value)

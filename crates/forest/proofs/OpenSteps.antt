@@ -2,7 +2,7 @@
 use Rattle.template.specs.Balance.{nodes_by}
 use Rattle.std.proofs.Common.{◌≡◌, ◌∙◌, ◌+◌, ◌<◌, ◌≤◌, ℕ, suc, Bool, true, false, List, refl, sym, subst, arith}
 use Rattle.atomic_table.specs.declared.shared.Seat.{Seat}
-use Rattle.histories.specs.Common.{Step, Turn, Ask, Done, Call, IsRun, MatchTurn}
+use Rattle.histories.specs.Common.{Layout, Step, Turn, Ask, Done, Call, IsRun, MatchTurn}
 use Rattle.dict.specs.Calls.{call_in, AsksForPairs}
 use Rattle.dict.specs.DictKnown.{DictWaits, DictAnswers}
 use Rattle.template.specs.Common.{most_steps, Reply}
@@ -17,6 +17,7 @@ use Rattle.forest.specs.Hosts.{Host, HostedStands, HostedWaits}
 use Rattle.forest.specs.OpenInvariant.{IsOpen, next_call}
 use Rattle.forest.specs.Passes.{steps_of}
 use Rattle.forest.specs.StraightCalls.{IsSameDictCall}
+use Rattle.forest.specs.CallSteps.{HasDictLeft}
 use Rattle.forest.specs.TableRule.{history_of}
 use Rattle.forest.specs.Traces.{Stands, seat_steps, shared_nodes, weight, run_at}
 use Rattle.forest.proofs.Advances.{weighs}
@@ -32,7 +33,7 @@ differ e = cc
 module _ {K V : Type 0} (valid_key : K → Type 0) (key : K → ℕ) (valid_value : V → Type 0) (value : V → ℕ) where
   -- where the machine of such a call is
   abbrev pub DictStands : Call → List SeatedPass → DictRun K V → DictRun K V → Turn (Reply K V) → Type 0
-  DictStands c ps first m turn = Stands (TypedAllows (IsWordOf valid_key key) (IsWordOf valid_value value)) (DictWaits (IsWordOf valid_key key) (IsWordOf valid_value value)) (IsSameDictCall valid_key key valid_value value) c ps first (DictAnswers valid_key key valid_value value) m turn
+  DictStands c ps first m turn = Stands (TypedAllows (IsWordOf valid_key key) (IsWordOf valid_value value)) (DictWaits (IsWordOf valid_key key) (IsWordOf valid_value value)) (IsSameDictCall valid_key key valid_value value) HasDictLeft c ps first (DictAnswers valid_key key valid_value value) m turn
 
   -- it is of the same call as the first
   pub same_so_far : (c : Call) (ps : List SeatedPass) (first m : DictRun K V) (turn : Turn (Reply K V)) → DictStands c ps first m turn → IsSameCall valid_key key valid_value value first m
@@ -52,14 +53,14 @@ module _ {K V : Type 0} (valid_key : K → Type 0) (key : K → ℕ) (valid_valu
     pub open_asks : AsksForPairs (call_in o.run.run)
     open_asks = waits_asks valid_key key valid_value value o.run (next_call o.began.value x.pass.is_pass) (history_of open_waits.planting open_waits.known) step open_waits.so.0
 
-    -- the call, of its own machine
-    abbrev pub open_host : Host (dict_calls valid_key key valid_value value o.layout o.call) (own_call (dict_calls valid_key key valid_value value o.layout o.call) (DictAnswers valid_key key valid_value value))
-    open_host = own (dict_calls valid_key key valid_value value o.layout o.call) (DictAnswers valid_key key valid_value value) (next_call o.began.value x.pass.is_pass) (sym x.kept.layout) (sym x.kept.call) x.first
+    -- the call, of its own machine, in a table whose names have this layout
+    abbrev pub open_host : (lay : Layout) → o.layout ≡ lay → Host (dict_calls valid_key key valid_value value lay o.call) (own_call (dict_calls valid_key key valid_value value lay o.call) (DictAnswers valid_key key valid_value value))
+    open_host lay of_table = own (dict_calls valid_key key valid_value value lay o.call) (DictAnswers valid_key key valid_value value) (next_call o.began.value x.pass.is_pass) (sym x.kept.layout ∙ of_table) (sym x.kept.call) x.first
 
-    module _ (s : Seat ℕ SeatView) (m : DictRun K V) (turn : Turn (Reply K V)) (table : s.table_id ≡ o.seat.table_id) (bare : s.me.1 ≡ o.seat.me.1) (one : seat_steps s.me.0.passes ≡ suc (seat_steps o.seat.me.0.passes))
-        (stands : (k : Host (dict_calls valid_key key valid_value value o.layout o.call) (own_call (dict_calls valid_key key valid_value value o.layout o.call) (DictAnswers valid_key key valid_value value))) → HostedWaits k o.seat.me.0.passes o.run step → HostedStands k s.me.0.passes m turn) where
+    module _ (lay : Layout) (of_table : o.layout ≡ lay) (s : Seat ℕ SeatView) (m : DictRun K V) (turn : Turn (Reply K V)) (table : s.table_id ≡ o.seat.table_id) (bare : s.me.1 ≡ o.seat.me.1) (one : seat_steps s.me.0.passes ≡ suc (seat_steps o.seat.me.0.passes))
+        (stands : (k : Host (dict_calls valid_key key valid_value value lay o.call) (own_call (dict_calls valid_key key valid_value value lay o.call) (DictAnswers valid_key key valid_value value))) → HostedWaits k o.seat.me.0.passes o.run step → HostedStands k s.me.0.passes m turn) where
       stood : DictStands (next_call o.began.value x.pass.is_pass) s.me.0.passes x.first m turn
-      stood = own_stands (dict_calls valid_key key valid_value value o.layout o.call) (DictAnswers valid_key key valid_value value) (next_call o.began.value x.pass.is_pass) (sym x.kept.layout) (sym x.kept.call) x.first s.me.0.passes m turn (stands open_host open_waits)
+      stood = own_stands (dict_calls valid_key key valid_value value lay o.call) (DictAnswers valid_key key valid_value value) (next_call o.began.value x.pass.is_pass) (sym x.kept.layout ∙ of_table) (sym x.kept.call) x.first s.me.0.passes m turn (stands (open_host lay of_table) open_waits)
 
       -- it is of the same call as before
       pub same_call : IsSameCall valid_key key valid_value value o.run m
@@ -73,17 +74,17 @@ module _ {K V : Type 0} (valid_key : K → Type 0) (key : K → ℕ) (valid_valu
           on (Ask u) z = rw z.is.alone z.sound
           on (Done a) z = rw z.is.alone z.sound
 
-      module _ (nearer : MatchTurn turn (λ _. map_left m.run (shared_nodes o.layout) < map_left o.run.run (shared_nodes o.layout)) (λ _. Unit {0})) where
+      module _ (nearer : MatchTurn turn (λ _. map_left m.run (shared_nodes lay) < map_left o.run.run (shared_nodes lay)) (λ _. Unit {0})) where
         few : seat_steps s.me.0.passes + weight turn (map_left m.run (shared_nodes o.layout)) ≤ steps_of o.began.value + most_steps (call_in o.run.run) o.run.tries (nodes_by trie (shared_nodes o.layout))
         few =
-            let w = weighs turn (map_left m.run (shared_nodes o.layout)) (map_left o.run.run (shared_nodes o.layout)) nearer in
+            let w = weighs turn (map_left m.run (shared_nodes o.layout)) (map_left o.run.run (shared_nodes o.layout)) (rw of_table nearer) in
             let z = rw is at x.steps in
             omega (arith, one, w, z)
 
         -- it stays a call that is held open
         pub stays_open : (over : Bool) → (over ≡ true → MatchTurn turn (λ _. ⊥) (λ _. Unit {0})) → (over ≡ false → MatchTurn turn (λ _. Unit {0}) (λ _. ⊥)) → IsOpen valid_key key valid_value value trie (record o { seat = s; run = m; turn = turn; over = over })
         stays_open over ends goes = record {
-          pass = record { seat = x.pass.seat; bare = refl; is_mode = x.pass.is_mode; is_pass = x.pass.is_pass; sound = x.pass.sound; rest = x.pass.rest; blamed = x.pass.blamed };
+          pass = record { seat = x.pass.seat; bare = refl; is_mode = x.pass.is_mode; is_pass = x.pass.is_pass; sound = x.pass.sound; rest = x.pass.rest; dealt = x.pass.dealt; blamed = x.pass.blamed };
           table = table ∙ x.table;
           bare = bare ∙ x.bare;
           kept = x.kept;

@@ -2,13 +2,15 @@
 use Rattle.std.proofs.Common.{◌≡◌, ◌≢◌, ℕ, ◌+◌, ◌-◌, ◌≤◌, List, [], inl, refl, sym, ◌∙◌, ap, subst, arith}
 use Rattle.atomic_table.specs.declared.shared.Seat.{Seat}
 use Rattle.histories.specs.Common.{Layout, Step, Fill, Remaining, first_scx, History, Opening, Opened, Start, Lawful, Call, IsRun, Shaped, Mode}
+use Rattle.arena.specs.Layout.{IsMap}
 use Rattle.arena.specs.Share.{whole_share}
 use Rattle.arena.proofs.Lemmas.{ends_self}
 use Rattle.prims.specs.declared.snap.Snap.{Snap}
+use Rattle.forest.specs.declared.memory.PassMemory.{PassMemory}
 use Rattle.forest.specs.declared.view.SeatedPass.{SeatedPass}
 use Rattle.forest.specs.declared.view.SeatView.{SeatView}
 use Rattle.forest.specs.declared.pass.Pass.TheInside.{Inside}
-use Rattle.forest.specs.TableRule.{history_of}
+use Rattle.forest.specs.TableRule.{dealt_to, history_of}
 use Rattle.forest.specs.Traces.{IsSeated, Trace, HoldsForCall, known_of, planting_of, memory_of, run_at, rows_of, seat_steps}
 use Rattle.forest.specs.Shares.{IsBetweenCalls}
 use Rattle.forest.specs.Passes.{PassView, Ground, IsOf, AreOfCall, CanUse, HasGoneOn, HasTakenNothing, IsLaterView, run_of}
@@ -44,9 +46,9 @@ layout_of e q of = ap (λ (s : PassView). s.layout) e ∙ of.1 ∙ sym (ap (λ (
 abbrev pub call_of : {allows : Layout → History → ℕ → Type 0} {mode : Mode} {T : Type 0} (p : Inside T) → IsPass allows mode p → ℕ → Call
 call_of p x number = record { layout = p.layout; pass = p.number.0; is_pass = x.is_pass; number = number; start = run_at p.seat.me.0.passes }
 
--- a call of it begins where P holds of what it knows
-pub begun_with : {allows : Layout → History → ℕ → Type 0} {mode : Mode} {T : Type 0} (p : Inside T) (x : IsPass allows mode p) (number : ℕ) {P : History → Type 0} → P (run_at p.seat.me.0.passes) → HoldsForCall allows p.seat.me.0.passes (call_of p x number) (λ h. ((call_of p x number).start ≡ h) × P h)
-begun_with p x number holds = record { planting = planting_of p.seat.me.0.passes; known = known_of p.seat.me.0.passes; is = record { memory = memory_of p.seat.me.0.passes; alone = x.seat.alone; since = x.seat.since }; sound = x.sound; so = (refl, holds) }
+-- a call of it begins where P holds of what it knows, and what the call is to have is dealt
+pub begun_with : {allows : Layout → History → ℕ → Type 0} {mode : Mode} {T : Type 0} (p : Inside T) (x : IsPass allows mode p) (number : ℕ) {P : History → Type 0} {left : PassMemory → Type 0} → left (memory_of p.seat.me.0.passes) → P (run_at p.seat.me.0.passes) → HoldsForCall allows left p.seat.me.0.passes (call_of p x number) (λ h. ((call_of p x number).start ≡ h) × P h)
+begun_with p x number dealt holds = record { planting = planting_of p.seat.me.0.passes; known = known_of p.seat.me.0.passes; is = record { memory = memory_of p.seat.me.0.passes; alone = x.seat.alone; since = x.seat.since; there = x.seat.there; left = dealt }; sound = x.sound; so = (refl, holds) }
 
 -- the pass with its seat as it is now
 abbrev pub seated : {T : Type 0} → Inside T → Seat ℕ SeatView → Inside T
@@ -58,20 +60,24 @@ pub record HasOnlyLoaded (allows : Layout → History → ℕ → Type 0) {T : T
   pub answers : A (run_at s.me.0.passes)
   pub goes : CarriesOn allows p.layout p.number.0 (run_at p.seat.me.0.passes) (run_at s.me.0.passes) p.share p.share.next_node p.share.next_scx []
   pub calls : AreOfCall p.number.0 number (run_at p.seat.me.0.passes) (run_at s.me.0.passes)
+  -- in a map as much is dealt as was
+  pub dealt : IsMap p.layout.mode → dealt_to (memory_of s.me.0.passes) ≡ dealt_to (memory_of p.seat.me.0.passes)
 
-pub called : {allows : Layout → History → ℕ → Type 0} {mode : Mode} {T : Type 0} (p : Inside T) (x : IsPass allows mode p) (s : Seat ℕ SeatView) (number : ℕ) {M : Type 0} (waits : M → Call → History → Step → Type 0) (same : M → M → Type 0) (first m : M) (A : History → Type 0) → ((m : M) (h : History) (t : Step) → waits m (call_of p x number) h t → t.kind ≢ Fill) → HoldsForCall allows s.me.0.passes (call_of p x number) (λ h. A h × Trace allows waits same (call_of p x number) first m h) → HasOnlyLoaded allows p s number A
-called {allows} p x s number waits same first m A fills_not y =
+-- so it is after a call in a table that holds no map
+pub called : {allows : Layout → History → ℕ → Type 0} {mode : Mode} {T : Type 0} (p : Inside T) (x : IsPass allows mode p) (s : Seat ℕ SeatView) (number : ℕ) {M : Type 0} (waits : M → Call → History → Step → Type 0) (same : M → M → Type 0) (first m : M) (A : History → Type 0) {left : PassMemory → Type 0} → (IsMap p.layout.mode → ⊥) → ((m : M) (h : History) (t : Step) → waits m (call_of p x number) h t → t.kind ≢ Fill) → HoldsForCall allows left s.me.0.passes (call_of p x number) (λ h. A h × Trace allows waits same (call_of p x number) first m h) → HasOnlyLoaded allows p s number A
+called {allows} p x s number waits same first m A none fills_not y =
     let run : history_of y.planting y.known ≡ run_at s.me.0.passes = sym (ap run_at y.is.alone) in
     record {
       seat = call_back s.me.0.passes (call_of p x number) y.planting y.known y.is (course_since (call_of p x number) m _ y.so.1);
       answers = subst A run y.so.0;
       goes = subst (λ h. CarriesOn allows p.layout p.number.0 (run_at p.seat.me.0.passes) h p.share p.share.next_node p.share.next_scx []) run (quiet_goes waits same (call_of p x number) first p.share fills_not x.sound x.rest m _ y.so.1);
       calls = subst (λ h. AreOfCall p.number.0 number (run_at p.seat.me.0.passes) h) run (course_calls (call_of p x number) m _ y.so.1);
+      dealt = λ map. absurd (none map);
     }
 
 -- it is a pass again
 pub called_pass : {allows : Layout → History → ℕ → Type 0} {mode : Mode} {T : Type 0} (p : Inside T) (x : IsPass allows mode p) (s : Seat ℕ SeatView) (number : ℕ) (A : History → Type 0) → s.me.1 ≡ p.seat.me.1 → HasOnlyLoaded allows p s number A → IsPass allows mode (seated p s)
-called_pass p x s number A bare y = record { seat = y.seat; bare = bare ∙ x.bare; is_mode = x.is_mode; is_pass = x.is_pass; sound = y.goes.sound; rest = record { share = y.goes.share; upper = x.rest.upper; over = y.goes.over }; blamed = blamed_later (pass_view p) (pass_view (seated p s)) refl refl refl y.goes.sound.lawful y.goes.since x.blamed }
+called_pass p x s number A bare y = record { seat = y.seat; bare = bare ∙ x.bare; is_mode = x.is_mode; is_pass = x.is_pass; sound = y.goes.sound; rest = record { share = y.goes.share; upper = x.rest.upper; over = y.goes.over }; dealt = λ map. x.dealt map ∙ sym (y.dealt map); blamed = blamed_later (pass_view p) (pass_view (seated p s)) refl refl refl y.goes.sound.lawful y.goes.since x.blamed }
 
 -- it has taken nothing
 pub called_nothing : {allows : Layout → History → ℕ → Type 0} {T : Type 0} (p : Inside T) (s : Seat ℕ SeatView) (number : ℕ) (A : History → Type 0) → HasOnlyLoaded allows p s number A → HasTakenNothing (pass_view p) (pass_view (seated p s))

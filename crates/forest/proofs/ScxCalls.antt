@@ -1,6 +1,7 @@
 -- What a call of `scx` says.
 use Rattle.std.proofs.Common.{◌≡◌, ◌<◌, ◌≤◌, ◌+◌, ◌⊎◌, ◌↔◌, ℕ, inl, inr, Bool, true, false, cond, eqb, List, [], ◌∷◌, length, None, refl, sym, ◌∙◌, ap, subst, arith}
 use Rattle.atomic_table.specs.declared.shared.Seat.{Seat}
+use Rattle.arena.specs.Layout.{IsMap}
 use Rattle.histories.specs.Common.{Layout, NodeNo, Side, state, value, History, Opened, ◌⊳◌, Extends, IsOwnNode, IsOwnScx, IsTakenScx, Lawful, HasWon, Entry, log, has, IsEntered, Freeze, Records, Resource, Nodes}
 use Rattle.arena.specs.Log.{AreOnce}
 use Rattle.histories.proofs.Lemmas.{IsIn, Logs, aborted_never_won, lawful_tail, logs, newest, older, once, same as log_same, wins as log_wins}
@@ -12,8 +13,10 @@ use Rattle.prims.specs.declared.scx.ScxAt.TheVariants.{Start as ScxStart}
 use Rattle.prims.specs.declared.put.PutAt.TheVariants.{Start as PutStart}
 use Rattle.arena.specs.Share.{after_taking, IsFullOf}
 use Rattle.arena.specs.declared.fault.Resource.TheVariants.{Scx as ScxRecords}
+use Rattle.forest.specs.declared.memory.PassMemory.{PassMemory}
 use Rattle.forest.specs.declared.view.SeatView.{SeatView}
 use Rattle.forest.specs.declared.pass.Pass.TheInside.{Inside}
+use Rattle.forest.specs.CallSteps.{AnyLeft, no_map_of_cells}
 use Rattle.forest.specs.TableRule.{history_of}
 use Rattle.forest.specs.Traces.{IsSeated, Trace, HoldsForCall, seat_steps, run_at}
 use Rattle.forest.specs.Shares.{IsBetweenCalls, entries_of}
@@ -116,8 +119,8 @@ module _ {T : Type 0} (p : Inside T) (x : IsPass AllowsAll Records p) (some_node
   free : ¬ IsTakenScx start p.share.next_scx
   free = next_free p.layout start p.number.0 p.share _ _ x.rest.share own_scx
 
-  pub put_begins : (m : PutRun) → Is m → m.at ≡ PutStart → m.scx.at ≡ ScxStart → Each (CanUse (pass_view p)) snaps → HoldsForCall AllowsAll p.seat.me.0.passes (call_of p x number) (λ h. ((call_of p x number).start ≡ h) × PutIsReady AllowsAll m (call_of p x number) h None)
-  put_begins m of at scx_at usable = begun_with p x number (put_ready_first p.layout p.number.0 number x.is_pass start m x.sound.lawful of.over (rw of.snaps_are (each_at (CanUse (pass_view p)) snaps usable)) at
+  pub put_begins : (m : PutRun) → Is m → m.at ≡ PutStart → m.scx.at ≡ ScxStart → Each (CanUse (pass_view p)) snaps → HoldsForCall AllowsAll (AnyLeft m) p.seat.me.0.passes (call_of p x number) (λ h. ((call_of p x number).start ≡ h) × PutIsReady AllowsAll m (call_of p x number) h None)
+  put_begins m of at scx_at usable = begun_with p x number tt (put_ready_first p.layout p.number.0 number x.is_pass start m x.sound.lawful of.over (rw of.snaps_are (each_at (CanUse (pass_view p)) snaps usable)) at
       scx_at (rw of.record_is own_scx) (rw of.record_is x.rest.share.taken_scx) (rw of.record_is free) (rw of.fresh own_node) (rw of.fresh x.rest.share.taken_nodes)
       (rw of.fresh (x.rest.share.unmentioned p.share.next_node own_node (omega arith)))
       (rw of.fresh (x.rest.share.untaken_nodes p.share.next_node own_node (omega arith)))
@@ -135,7 +138,7 @@ module _ {T : Type 0} (p : Inside T) (x : IsPass AllowsAll Records p) (some_node
   abbrev pub Same : PutRun → PutRun → Type 0
   Same old now = (now.scx.scx ≡ old.scx.scx) × (now.scx.update ≡ old.scx.update) × (now.scx.call ≡ old.scx.call) × (now.value ≡ old.value)
 
-  pub put_called : (s : Seat ℕ SeatView) (first m : PutRun) (a : Scx) → Is first → HoldsForCall AllowsAll s.me.0.passes (call_of p x number) (λ h. PutAnswers m (call_of p x number) h a × Trace AllowsAll (PutWaits AllowsAll) Same (call_of p x number) first m h) → HasPut s a
+  pub put_called : {left : PassMemory → Type 0} (s : Seat ℕ SeatView) (first m : PutRun) (a : Scx) → Is first → HoldsForCall AllowsAll left s.me.0.passes (call_of p x number) (λ h. PutAnswers m (call_of p x number) h a × Trace AllowsAll (PutWaits AllowsAll) Same (call_of p x number) first m h) → HasPut s a
   put_called s first m a of y =
       let now : history_of y.planting y.known ≡ run_at s.me.0.passes = sym (ap run_at y.is.alone) in
       record {
@@ -163,6 +166,7 @@ module _ {T : Type 0} (p : Inside T) (x : IsPass AllowsAll Records p) (some_node
     is_pass = x.is_pass;
     sound = y.goes.sound;
     rest = put_rests (call_of p x number) y.run _ a (after_taking p.share) p.share.next_node p.share.next_scx snaps (put_hand y.run snaps finalize field v p.share.next_node p.share.next_scx number y.is_of) (omega arith) (omega arith) (λ e. let q = own_scx.from in omega arith) y.answers y.goes (same_end p.share some_node some_scx ∙ x.rest.upper);
+    dealt = λ map. absurd (no_map_of_cells (subst IsMap x.is_mode map));
     blamed = blamed_later (pass_view p) (pass_view (spent s)) refl refl refl y.goes.sound.lawful y.goes.since x.blamed;
   }
 

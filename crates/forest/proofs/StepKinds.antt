@@ -27,6 +27,7 @@ use Rattle.forest.specs.Passes.{HoldsOfOwn, PassView, run_of, taken_of}
 use Rattle.forest.specs.PassInvariant.{IsPass, pass_view}
 use Rattle.forest.specs.StepKinds.{HasKeptToKinds}
 use Rattle.forest.specs.StraightCalls.{IsSameDictCall}
+use Rattle.forest.specs.declared.memory.PassMemory.{PassMemory}
 use Rattle.forest.specs.TableRule.{history_of}
 use Rattle.forest.specs.Traces.{HoldsForCall, Trace, known_of, planting_of, run_at, KnowsAs}
 use Rattle.forest.proofs.Called.{course_holds, own_start}
@@ -80,7 +81,7 @@ module _ {K V : Type 0} (valid_key : K → Type 0) (key : K → ℕ) (valid_valu
     now = pass_view (behind valid_key key valid_value value_word trie p x s m reply)
 
     -- it has made steps of its kinds alone
-    pub dict_kinds : (first : DictRun K V) → HoldsForCall allows s.me.0.passes call (λ h. Ended h × Trace allows waits same call first m h) → HasKeptToKinds (pass_view p) now (call_in m.run)
+    pub dict_kinds : {left : PassMemory → Type 0} (first : DictRun K V) → HoldsForCall allows left s.me.0.passes call (λ h. Ended h × Trace allows waits same call first m h) → HasKeptToKinds (pass_view p) now (call_in m.run)
     dict_kinds first y =
         let run : history_of y.planting y.known ≡ run_at s.me.0.passes = sym (ap run_at y.is.alone) in
         let is : call_in m.run ≡ call_in first.run = (course_keeps (λ (k : DictRun K V). IsSameCall valid_key key valid_value value_word first k) (refl, refl, refl) (λ old now e q. (e.0 ∙ q.0, e.1 ∙ q.1, e.4 ∙ q.2)) m _ y.so.1).0 in

@@ -39,6 +39,7 @@ use Rattle.forest.specs.declared.view.SeatedPass.{SeatedPass}
 use Rattle.forest.specs.StraightCalls.{DictAllows, DictCallIsReady, DictCallWaits, IsSameDictCall, SeatDictBegins, SeatDictEnds, SeatWordEnds, IsFreshCall, SeatCallBegins, CallHasEnded}
 use Rattle.forest.specs.StraightReads.{Reader, ReaderBegins, ReaderEnds}
 use Rattle.forest.specs.StraightUpdate.{Updater, HasUpdateGoneOn, UpdaterBegins, UpdaterEnds}
+use Rattle.forest.specs.CallSteps.{HasDictLeft}
 use Rattle.forest.specs.TableRule.{history_of}
 use Rattle.forest.specs.Traces.{Trace, begins, goes_on}
 use Rattle.forest.specs.CallKinds.{Calls}
@@ -72,7 +73,7 @@ module _ {K V : Type 0} (valid_key : K → Type 0) (key : K → ℕ) (valid_valu
 
   -- its calls of a layout and a number
   abbrev pub dict_calls : Layout → ℕ → Calls (DictRun K V)
-  dict_calls layout number = record { allows = allows; ready = ready; waits = waits; same = same; layout = layout; number = number }
+  dict_calls layout number = record { allows = allows; ready = ready; waits = waits; same = same; left_dealt = HasDictLeft; layout = layout; number = number }
 
   abbrev keys : ℕ → Type 0
   keys = IsWordOf valid_key key

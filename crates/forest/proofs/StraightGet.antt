@@ -33,6 +33,7 @@ use Rattle.forest.specs.PassInvariant.{pass_view, IsPass}
 use Rattle.forest.specs.StraightCalls.{IsSameDictCall}
 use Rattle.forest.specs.StraightGet.{getting}
 use Rattle.forest.specs.StraightWalk.{Walker, WalkerWaits, WalkerFinds, WalksFromRoot}
+use Rattle.forest.specs.CallSteps.{HasDictLeft}
 use Rattle.forest.specs.Traces.{HoldsForCall, Trace}
 use Rattle.forest.proofs.DictCalls.{Answered, dict_starts}
 use Rattle.forest.proofs.Passes.{call_of}
@@ -85,7 +86,7 @@ module _ {K V : Type 0} (valid_key : K → Type 0) (key : K → ℕ) (valid_valu
   get_walks trie p x tries wanted number way layout is_layout is_number is_way small =
       let first : DictRun K V = getting p.share tries wanted (way_at way (ToKey wanted) root_trail Start) in
       let c : Call = call_of p x (taken_of (pass_view p)) in
-      starts allows ready waits same c p.seat.me.0.passes first (getting p.share tries wanted (way_from way (ToKey wanted))) _ (refl, refl, (omega arith, omega arith), refl, refl)
+      starts allows ready waits same HasDictLeft c p.seat.me.0.passes first (getting p.share tries wanted (way_from way (ToKey wanted))) _ (refl, refl, (omega arith, omega arith), refl, refl)
       (λ h run r. (r.0, (record { mode = r.1.0.mode; small = r.1.0.small; number = r.1.0.number; limit = tt; spent = r.1.0.spent }, ((walk_begins way (ToKey wanted) c h r.1.1.0.0.run r.1.1.0.0.may r.1.1.0.0.small r.1.1.0.0.since, (refl, to_leaf), none_tried Root _ _ r.1.1.0.2), r.1.1.1))))
       (dict_starts valid_key key valid_value value_word p x first (ap is_in_trie is_way ∙ by_leaf trie) tt (refl, refl, (refl, to_leaf), small) tt refl)
     where
@@ -100,7 +101,7 @@ module _ {K V : Type 0} (valid_key : K → Type 0) (key : K → ℕ) (valid_valu
   -- what its walk finds, it answers
   pub get_ended : (share : Remaining) (tries wanted number : ℕ) (way : Way) (layout : Layout) (c : Call) (is_layout : c.layout ≡ layout) (is_number : c.number ≡ number) (ps : List SeatedPass) (turn : LastTurns) (f : Found) (v : Option V) → IsMap c.layout.mode → IfSome v valid_value → (IfSome f.value (IsWordOf valid_value value_word) → option_map value_word v ≡ f.value)
       → (x : WalkerFinds (walker share tries wanted way c layout number is_layout is_number) ps way (ToKey wanted) turn f)
-      → HoldsForCall allows ps c (λ h. DictAnswers valid_key key valid_value value_word (getting share tries wanted x.last) c h (replies.Value v) × Trace allows waits same c (getting share tries wanted (way_at way (ToKey wanted) root_trail Start)) (getting share tries wanted x.last) h)
+      → HoldsForCall allows (HasDictLeft {K = K} {V = V} (getting share tries wanted (way_at way (ToKey wanted) root_trail Start))) ps c (λ h. DictAnswers valid_key key valid_value value_word (getting share tries wanted x.last) c h (replies.Value v) × Trace allows waits same c (getting share tries wanted (way_at way (ToKey wanted) root_trail Start)) (getting share tries wanted x.last) h)
   unfolding walker
   get_ended share tries wanted number way layout c is_layout is_number ps turn f v mode valid same_word x =
       record { planting = x.so.planting; known = x.so.known; is = x.so.is; sound = x.so.sound; so = (answers _ x.so.sound x.so.so.0, x.so.so.1) }
@@ -115,7 +116,7 @@ module _ {K V : Type 0} (valid_key : K → Type 0) (key : K → ℕ) (valid_valu
   -- and so it has ended, where a walk that waits for the head of the root finds that
   pub get_over : (trie : Bool) {T : Type 0} (p : Inside T) (x : IsPass allows (map_mode trie) p) (s : Seat ℕ SeatView) (tries wanted number : ℕ) (way : Way) (layout : Layout) → p.layout ≡ layout → taken_of (pass_view p) ≡ number → way ≡ leaf_way trie → wanted < 2 ^ 64 → (turn : LastTurns) (f : Found) (v : Option V) → IfSome v valid_value → (IfSome f.value (IsWordOf valid_value value_word) → option_map value_word v ≡ f.value)
       → ((w : Walker (dict_calls valid_key key valid_value value_word layout number)) → WalksFromRoot w p.seat.me.0.passes way (ToKey wanted) → WalkerFinds w s.me.0.passes way (ToKey wanted) turn f)
-      → (last : WalkRun) × HoldsForCall allows s.me.0.passes (call_of p x (taken_of (pass_view p))) (λ h. Answered valid_key key valid_value value_word trie p x s (getting p.share tries wanted last) (replies.Value v) h × Trace allows waits same (call_of p x (taken_of (pass_view p))) (getting p.share tries wanted (way_at way (ToKey wanted) root_trail Start)) (getting p.share tries wanted last) h)
+      → (last : WalkRun) × HoldsForCall allows (HasDictLeft {K = K} {V = V} (getting p.share tries wanted (way_at way (ToKey wanted) root_trail Start))) s.me.0.passes (call_of p x (taken_of (pass_view p))) (λ h. Answered valid_key key valid_value value_word trie p x s (getting p.share tries wanted last) (replies.Value v) h × Trace allows waits same (call_of p x (taken_of (pass_view p))) (getting p.share tries wanted (way_at way (ToKey wanted) root_trail Start)) (getting p.share tries wanted last) h)
   get_over trie p x s tries wanted number way layout is_layout is_number is_way small turn f v valid same_word finds =
       let c : Call = call_of p x (taken_of (pass_view p)) in
       let found = finds (walker p.share tries wanted way c layout number is_layout is_number) (get_walks trie p x tries wanted number way layout is_layout is_number is_way small) in

@@ -7,6 +7,7 @@ use Rattle.prims.proofs.Lemmas.{turn_first, Knows, knows, turn_info, turn_state,
 use Rattle.prims.specs.declared.llx.LlxAt.TheVariants.{Start, Marked, StateAgain, Info, State, MarkedAgain, Left as AtLeft, Right as AtRight, InfoAgain}
 use Rattle.forest.specs.declared.view.SeatedPass.{SeatedPass}
 use Rattle.forest.specs.CallKinds.{Calls}
+use Rattle.forest.specs.CallSteps.{AnyLeft}
 use Rattle.forest.specs.StraightLlx.{llx_at, IsSameNode, SeatLlxBegins, SeatLlxWaits, SeatLlxEnds, Looker, LookerSnaps, LoadsMark, LoadsStateAgain}
 use Rattle.forest.specs.TableRule.{history_of}
 use Rattle.forest.proofs.Places.{starts}
@@ -72,7 +73,7 @@ module _ {M : Type 0} {inner : Layout → History → ℕ → Type 0} {o : Calls
 
 -- its calls of a layout and a number
 abbrev pub llx_calls : (Layout → History → ℕ → Type 0) → Layout → ℕ → Calls LlxRun
-llx_calls allows layout number = record { allows = allows; ready = LlxIsReady allows; waits = LlxWaits allows; same = IsSameNode; layout = layout; number = number }
+llx_calls allows layout number = record { allows = allows; ready = LlxIsReady allows; waits = LlxWaits allows; same = IsSameNode; left_dealt = AnyLeft; layout = layout; number = number }
 
 module _ (allows : Layout → History → ℕ → Type 0) (layout : Layout) (number : ℕ) (c : Call) (is_layout : c.layout ≡ layout) (is_number : c.number ≡ number) (node : NodeNo) where
   -- a run of LLX looks at its node itself
@@ -92,7 +93,7 @@ module _ (allows : Layout → History → ℕ → Type 0) (layout : Layout) (num
     -- its first turn takes it to the load of the mark
     pub begins_look : SeatLlxBegins allows c ps node → LoadsMark looker ps node
     unfolding looker
-    begins_look = starts allows (LlxIsReady allows) (LlxWaits allows) IsSameNode c ps (llx_at node Start) (llx_at node Marked) _ refl (λ h run x. turn_first allows c h run (llx_at node Start) (llx_at node Marked) (Ask _) x record { stands = refl; asked = refl })
+    begins_look = starts allows (LlxIsReady allows) (LlxWaits allows) IsSameNode AnyLeft c ps (llx_at node Start) (llx_at node Marked) _ refl (λ h run x. turn_first allows c h run (llx_at node Start) (llx_at node Marked) (Ask _) x record { stands = refl; asked = refl })
 
     -- something is in the way
     pub hands_over : (b : Bool) (s : ScxNo) → LoadsStateAgain looker ps node b s → SeatLlxWaits allows c ps node (StateAgain b s) (load LoadState (state s.0))

@@ -12,6 +12,7 @@ use Rattle.forest.specs.StraightScx.{Changer, scx_fill, all_frozen_load}
 use Rattle.forest.specs.StraightPut.{IsSamePut, scx_at, SeatPutBegins, SeatPutWaits, SeatPutTold, SeatPutEnds}
 use Rattle.forest.specs.Traces.{begins, goes_on}
 use Rattle.forest.specs.CallKinds.{Calls}
+use Rattle.forest.specs.CallSteps.{AnyLeft}
 use Rattle.forest.specs.Inside.{InnerIsTold, InnerWaits}
 
 module _ (allows : Layout → History → ℕ → Type 0) (c : Call) (ps : List SeatedPass) (first : PutRun) where
@@ -41,7 +42,7 @@ with_scx m scx = record { value = m.value; scx = scx; at = AtScx }
 
 -- its calls of a layout and a number
 abbrev pub put_calls : (Layout → History → ℕ → Type 0) → Layout → ℕ → Calls PutRun
-put_calls allows layout number = record { allows = allows; ready = PutIsReady allows; waits = PutWaits allows; same = IsSamePut; layout = layout; number = number }
+put_calls allows layout number = record { allows = allows; ready = PutIsReady allows; waits = PutWaits allows; same = IsSamePut; left_dealt = AnyLeft; layout = layout; number = number }
 
 module _ (allows : Layout → History → ℕ → Type 0) (layout : Layout) (number : ℕ) (c : Call) (is_layout : c.layout ≡ layout) (is_number : c.number ≡ number) (first : PutRun) where
   -- a run of SCX with a fresh cell makes an SCX

@@ -7,6 +7,7 @@ use Rattle.prims.specs.Vlx.Known.{HasFoundUnchanged}
 use Rattle.prims.specs.Vlx.Laws.{first_looked, looks_next, looked_on, turn_changed, all_same}
 use Rattle.forest.specs.declared.view.SeatedPass.{SeatedPass}
 use Rattle.forest.specs.CallKinds.{Calls}
+use Rattle.forest.specs.CallSteps.{AnyLeft}
 use Rattle.forest.specs.Inside.{InnerIsTold, InnerWaits}
 use Rattle.forest.specs.StraightVlx.{vlx_at, AreSameSnaps, ready_over, waits_over, SeatVlxBegins, SeatVlxEnds, Validator, LoadsFirstInfo}
 use Rattle.forest.specs.TableRule.{history_of}
@@ -19,7 +20,7 @@ to_next {snaps = snaps} k ps n asked v is found more = goes_to k ps asked (suc a
 
 -- its calls over such lists, of a layout and a number
 abbrev vlx_calls : {L : Type 0} → (L → List Snap) → (Layout → History → ℕ → Type 0) → Layout → ℕ → Calls (VlxRun L)
-vlx_calls list allows layout number = record { allows = allows; ready = ready_over list; waits = waits_over list; same = AreSameSnaps; layout = layout; number = number }
+vlx_calls list allows layout number = record { allows = allows; ready = ready_over list; waits = waits_over list; same = AreSameSnaps; left_dealt = AnyLeft; layout = layout; number = number }
 
 module _ {L : Type 0} (list : L → List Snap) (allows : Layout → History → ℕ → Type 0) (layout : Layout) (number : ℕ) (c : Call) (is_layout : c.layout ≡ layout) (is_number : c.number ≡ number) (snaps : L) where
   -- a run of VLX validates its snapshots itself
@@ -39,7 +40,7 @@ module _ {L : Type 0} (list : L → List Snap) (allows : Layout → History → 
     -- its first turn takes it to the load of the first info
     pub begins_looking : SeatVlxBegins list allows c ps snaps → LoadsFirstInfo validator ps
     unfolding validator
-    begins_looking = starts allows (ready_over list) (waits_over list) AreSameSnaps c ps (vlx_at snaps 0) (vlx_at snaps 1) _ refl (λ h run x. looks_next c h (list snaps) 0 (first_looked c h (list snaps) 0 x) x.some)
+    begins_looking = starts allows (ready_over list) (waits_over list) AreSameSnaps AnyLeft c ps (vlx_at snaps 0) (vlx_at snaps 1) _ refl (λ h run x. looks_next c h (list snaps) 0 (first_looked c h (list snaps) 0 x) x.some)
 
     -- where the last info was not what its snapshot found, that is the answer
     pub answers_changed : (n asked v : ℕ) → suc n ≡ asked → (snap_at (list snaps) n).scx.0 ≢ v → InnerIsTold validator ps asked v → SeatVlxEnds list allows c ps snaps (Changed (snap_at (list snaps) n).node record { 0 = v })

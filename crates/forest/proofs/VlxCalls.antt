@@ -1,7 +1,8 @@
 -- What a call of `vlx` says.
 use Rattle.std.proofs.Common.{◌≡◌, ◌≢◌, ◌<◌, ℕ, zero, suc, inl, inr, List, [], ◌∷◌, length, refl, sym, ◌∙◌, ap, subst, arith}
 use Rattle.atomic_table.specs.declared.shared.Seat.{Seat}
-use Rattle.histories.specs.Common.{Layout, LoadInfo, Step, History, Mode}
+use Rattle.arena.specs.Layout.{IsMap}
+use Rattle.histories.specs.Common.{Layout, LoadInfo, Step, History, Records}
 use Rattle.template.specs.Common.{AreDistinct, IsAmong, snap_at, VlxAnswers, Snap, Vlx, Same, Changed, VlxRun}
 use Rattle.prims.proofs.Lemmas.{vlx_fills_not, all_over, vlx_ready_first}
 use Rattle.forest.specs.declared.view.SeatView.{SeatView}
@@ -11,6 +12,7 @@ use Rattle.forest.specs.StraightVlx.{vlx_at, AreSameSnaps, waits_over, SeatVlxBe
 use Rattle.forest.specs.Passes.{CanUse, Each, AreApart, HasNodeOf, HoldsOfOwn, VlxSays, run_of}
 use Rattle.forest.specs.PassInvariant.{pass_view, IsPass}
 use Rattle.forest.specs.StepKinds.{HasLoadedInfosAlone}
+use Rattle.forest.specs.CallSteps.{no_map_of_cells}
 use Rattle.forest.specs.TableRule.{history_of}
 use Rattle.forest.proofs.Called.{course_holds}
 use Rattle.forest.proofs.Calls.{course_keeps}
@@ -37,18 +39,18 @@ among_at (snap ∷ snaps) n (inr x) = let y = among_at snaps n x in record { at 
 
 -- Calls
 
-module _ {L : Type 0} (list : L → List Snap) {allows : Layout → History → ℕ → Type 0} {mode : Mode} {T : Type 0} (p : Inside T) (x : IsPass allows mode p) (number : ℕ) where
+module _ {L : Type 0} (list : L → List Snap) {allows : Layout → History → ℕ → Type 0} {T : Type 0} (p : Inside T) (x : IsPass allows Records p) (number : ℕ) where
   pub vlx_begins : (snaps : L) → 0 < length (list snaps) → Each (CanUse (pass_view p)) (list snaps) → SeatVlxBegins list allows (call_of p x number) p.seat.me.0.passes snaps
-  vlx_begins snaps some usable = begun_with p x number (vlx_ready_first p.layout p.number.0 number x.is_pass _ (list snaps) 0 refl some (each_at (CanUse (pass_view p)) (list snaps) usable) (all_over p.layout _ p.number.0 p.share _ _ x.rest.share x.rest.over))
+  vlx_begins snaps some usable = begun_with p x number tt (vlx_ready_first p.layout p.number.0 number x.is_pass _ (list snaps) 0 refl some (each_at (CanUse (pass_view p)) (list snaps) usable) (all_over p.layout _ p.number.0 p.share _ _ x.rest.share x.rest.over))
 
   abbrev pub Looked : L → Vlx → History → Type 0
   Looked snaps a h = VlxAnswers (list snaps) (call_of p x number) h a
 
   pub vlx_called : (s : Seat ℕ SeatView) (snaps : L) (a : Vlx) → SeatVlxEnds list allows (call_of p x number) s.me.0.passes snaps a → HasOnlyLoaded allows p s number (Looked snaps a)
   vlx_called s snaps a y =
-      let z = called p x s number (waits_over list) AreSameSnaps (vlx_at snaps 0) y.0 (λ h. VlxAnswers (list y.0.snaps) (call_of p x number) h a) (λ k h t w. vlx_fills_not (list k.snaps) k.asked (call_of p x number) h t w) y.1 in
+      let z = called p x s number (waits_over list) AreSameSnaps (vlx_at snaps 0) y.0 (λ h. VlxAnswers (list y.0.snaps) (call_of p x number) h a) (λ map. no_map_of_cells (subst IsMap x.is_mode map)) (λ k h t w. vlx_fills_not (list k.snaps) k.asked (call_of p x number) h t w) y.1 in
       let is : y.0.snaps ≡ snaps = course_keeps (λ (k : VlxRun L). k.snaps ≡ snaps) refl (λ old now e q. e ∙ q) y.0 _ y.1.so.1 in
-      record { seat = z.seat; answers = rw is at z.answers; goes = z.goes; calls = z.calls }
+      record { seat = z.seat; answers = rw is at z.answers; goes = z.goes; calls = z.calls; dealt = z.dealt }
 
   -- it has loaded info words alone
   pub vlx_kinds : (s : Seat ℕ SeatView) (snaps : L) (a : Vlx) → SeatVlxEnds list allows (call_of p x number) s.me.0.passes snaps a → HasLoadedInfosAlone (pass_view p) (pass_view (seated p s))

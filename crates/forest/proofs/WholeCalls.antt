@@ -1,7 +1,7 @@
 -- What a whole call of a dictionary says of the pass that has made it.
 use Rattle.std.specs.Prelude.{Bool}
 use Rattle.template.specs.Balance.{map_mode, nodes_by}
-use Rattle.std.proofs.Common.{◌≡◌, ◌∙◌, ◌+◌, ◌≤◌, ℕ, List, ap, subst, arith}
+use Rattle.std.proofs.Common.{◌≡◌, ◌∙◌, ◌+◌, ◌≤◌, ℕ, List, ap, sym, subst, arith}
 use Rattle.atomic_table.specs.declared.shared.Seat.{Seat}
 use Rattle.histories.specs.Common.{Layout, History, Call, Remaining}
 use Rattle.template.specs.Common.{MayReply, form_of, most_steps, MapCall, told_of, Reply}
@@ -13,12 +13,15 @@ use Rattle.dict.specs.Typed.{TypedAllows}
 use Rattle.dict.specs.Words.{IsWordOf}
 use Rattle.forest.specs.declared.pass.Pass.TheInside.{Inside}
 use Rattle.forest.specs.declared.view.SeatView.{SeatView}
+use Rattle.forest.specs.CallSteps.{HasDictLeft}
+use Rattle.forest.specs.Shares.{EndsAsDealt}
+use Rattle.forest.specs.TableRule.{dealt_to}
 use Rattle.forest.specs.Dictionary.{HasCalledIn, HasSpentAtMost, IsRefusalOf, IsToldOf, blamed_by_reply}
 use Rattle.forest.specs.Passes.{Ground, IsOf, PassView, taken_of}
 use Rattle.forest.specs.PassInvariant.{IsPass, pass_view}
 use Rattle.forest.specs.StepKinds.{HasKeptToKinds}
 use Rattle.forest.specs.StraightCalls.{IsSameDictCall}
-use Rattle.forest.specs.Traces.{HoldsForCall, Trace, known_of, seat_steps, shared_nodes, planting_of, KnowsAs}
+use Rattle.forest.specs.Traces.{HoldsForCall, Trace, known_of, memory_of, seat_steps, shared_nodes, planting_of, KnowsAs}
 use Rattle.forest.proofs.DictCalls.{Answered, IsSameCall, behind, dict_ended, dict_goes_on, dict_pass, dict_refuses, dict_spends, dict_tells, so_behind}
 use Rattle.forest.proofs.Entered.{HasEnded, left_with}
 use Rattle.forest.proofs.Passes.{call_of}
@@ -41,7 +44,7 @@ module _ {K V : Type 0} (valid_key : K → Type 0) (key : K → ℕ) (valid_valu
 
     -- the machine has got from the first to the last in this call
     abbrev pub IsOver : Type 0
-    IsOver = HoldsForCall allows s.me.0.passes call_made (λ h. Ended h × Trace allows (DictWaits (IsWordOf valid_key key) (IsWordOf valid_value value_word)) (IsSameDictCall valid_key key valid_value value_word) call_made first m h)
+    IsOver = HoldsForCall allows (HasDictLeft first) s.me.0.passes call_made (λ h. Ended h × Trace allows (DictWaits (IsWordOf valid_key key) (IsWordOf valid_value value_word)) (IsSameDictCall valid_key key valid_value value_word) call_made first m h)
 
     module _ (over : IsOver) where
       pub ended : HasEnded allows p s number Ended
@@ -50,6 +53,10 @@ module _ {K V : Type 0} (valid_key : K → Type 0) (key : K → ℕ) (valid_valu
       -- it is of the same call as the first
       pub of_first : IsSameCall valid_key key valid_value value_word first m
       of_first = (dict_ended valid_key key valid_value value_word trie p x s m reply first over).1
+
+      -- and what it has left is dealt, as what the first had was
+      pub stays_dealt : EndsAsDealt (share_of m.run) (memory_of s.me.0.passes)
+      stays_dealt = of_first.2 ∙ over.is.left ∙ sym (ap (λ ps. dealt_to (memory_of ps)) over.is.alone)
 
       -- where the first had the share of the pass, what is left ends where that does
       module _ (had : share_of first.run ≡ p.share) where
@@ -82,7 +89,7 @@ module _ {K V : Type 0} (valid_key : K → Type 0) (key : K → ℕ) (valid_valu
           left = left_with p x s number Ended share blamed
 
           pub whole_pass : s.me.1 ≡ p.seat.me.1 → IsPass allows (map_mode trie) left
-          whole_pass bare = so_behind valid_key key valid_value value_word trie p x s m reply (λ q. IsPass allows (map_mode trie) q) share blamed is_share is_blamed (dict_pass valid_key key valid_value value_word trie p x s m reply left_end ended bare)
+          whole_pass bare = so_behind valid_key key valid_value value_word trie p x s m reply (λ q. IsPass allows (map_mode trie) q) share blamed is_share is_blamed (dict_pass valid_key key valid_value value_word trie p x s m reply left_end ended stays_dealt bare)
 
           pub whole_call : (f : Ground) → IsOf f (pass_view p) → (call : MapCall) → call_in m.run ≡ call → m.tries ≡ f.tries → s.table_id ≡ p.seat.table_id → seat_steps s.me.0.passes ≤ seat_steps p.seat.me.0.passes + most_steps call f.tries (nodes_by trie (shared_nodes f.layout)) → (¬ AsksForPairs call → KnowsAs s.me.0.passes (planting_of p.seat.me.0.passes) (known_of p.seat.me.0.passes)) → HasCalledIn trie valid_key key valid_value value_word f (pass_view p) (pass_view left) call reply
           whole_call f of call is tries table steps nothing = so_behind valid_key key valid_value value_word trie p x s m reply (λ q. HasCalledIn trie valid_key key valid_value value_word f (pass_view p) (pass_view q) call reply) share blamed is_share is_blamed (says f of call is tries table steps nothing)

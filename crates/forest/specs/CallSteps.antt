@@ -1,17 +1,24 @@
--- Of which call a step of a map is, for a rule of the table that relies on it.
-use Rattle.std.proofs.Common.{◌≡◌, ℕ, List, refl, sym, true≢false}
+-- Of which call a step of a map is, and that what it fills is dealt, for a rule of the table that
+-- relies on it.
+use Rattle.std.proofs.Common.{◌≡◌, ◌≤◌, ◌∙◌, ℕ, List, refl, sym, ap, subst, true≢false}
+use Rattle.std.proofs.Math.Nat.{le-add_right, lt_of_lt_of_le}
 use Rattle.arena.specs.Layout.{IsMap}
 use Rattle.arena.specs.declared.limits.Mode.{Mode}
 use Rattle.arena.specs.declared.limits.Mode.TheVariants.{Records}
-use Rattle.histories.specs.Common.{Layout, Row, Step, History, Extends, Call, IsRun, row_of, Remaining}
-use Rattle.dict.specs.Calls.{share_of}
+use Rattle.histories.specs.Common.{Layout, Fill, Row, Step, Word, Node, Scx, History, Extends, Call, IsRun, row_of, Remaining}
+use Rattle.dict.specs.Calls.{KeepsEnd, share_of}
 use Rattle.dict.specs.DictKnown.{DictWaits}
 use Rattle.dict.specs.Laws.Taken.{map_fills_taken}
 use Rattle.dict.specs.declared.dict.DictRun.{DictRun}
 use Rattle.edits.specs.Taken.{FillsTaken}
+use Rattle.prims.specs.Shares.{share_end}
+use Rattle.resting.specs.Records.{record_of}
 use Rattle.touching.specs.Steps.{IsMapStep}
+use Rattle.forest.specs.declared.memory.PassMemory.{PassMemory}
 use Rattle.forest.specs.declared.rule.CallStep.{CallStep}
 use Rattle.forest.specs.declared.view.SeatedPass.{SeatedPass}
+use Rattle.forest.specs.LastingMemory.{FillsDealt, IsDealt}
+use Rattle.forest.specs.Shares.{EndsAsDealt}
 use Rattle.forest.specs.TableRule.{ByOthers, history_of, past_of, row}
 
 -- The step of a pass is one of a map's call of it, whatever rows of others come before: a machine
@@ -28,9 +35,23 @@ pub record IsOfMapCall (allows : Layout → History → ℕ → Type 0) (said : 
 pub dict_step : {K V : Type 0} (keys values : ℕ → Type 0) (m : DictRun K V) (c : Call) (h : History) (s : Step) → DictWaits keys values m c h s → IsMapStep c h (row_of c s h)
 dict_step keys values m c h s waits = record { tries = m.tries; machine = m.run; step = s; waits = waits.1; is = refl }
 
--- and that fills only what the machine has taken of its share
-pub dict_dealt : {K V : Type 0} (keys values : ℕ → Type 0) (m : DictRun K V) (c : Call) (h : History) (s : Step) → DictWaits keys values m c h s → FillsTaken (share_of m.run) s
-dict_dealt keys values m c h s waits = map_fills_taken m.tries m.run c h s waits.1
+-- what it has left of its share ends where the names end that are dealt
+abbrev pub HasDictLeft : {K V : Type 0} → DictRun K V → PassMemory → Type 0
+HasDictLeft m memory = EndsAsDealt (share_of m.run) memory
+
+-- and does so as long as that ends where it did
+pub dict_keeps_left : {K V : Type 0} (old now : DictRun K V) (memory : PassMemory) → KeepsEnd old.run now.run → HasDictLeft old memory → HasDictLeft now memory
+dict_keeps_left old now memory end left = end ∙ left
+
+-- then what was taken of the share is dealt
+taken_dealt : (left : Remaining) (memory : PassMemory) (s : Step) → EndsAsDealt left memory → FillsTaken left s → (w : Word) → s.word ≡ w → s.kind ≡ Fill → IsDealt memory (record_of w)
+unfolding share_end
+taken_dealt left memory s end taken (Node n part) is fill = lt_of_lt_of_le (taken.nodes n.0 part fill is) (subst (λ k. left.next_node ≤ k) (ap (λ (e : ℕ × ℕ). e.0) end) (le-add_right left.next_node left.nodes))
+taken_dealt left memory s end taken (Scx t part) is fill = lt_of_lt_of_le (taken.records t.0 part fill is) (subst (λ k. left.next_scx ≤ k) (ap (λ (e : ℕ × ℕ). e.1) end) (le-add_right left.next_scx left.scx))
+
+-- and each step for which the machine waits fills only that
+pub dict_dealt : {K V : Type 0} (keys values : ℕ → Type 0) (m : DictRun K V) (c : Call) (h : History) (s : Step) (memory : PassMemory) → DictWaits keys values m c h s → HasDictLeft m memory → FillsDealt memory s
+dict_dealt keys values m c h s memory waits left = taken_dealt (share_of m.run) memory s left (map_fills_taken m.tries m.run c h s waits.1) s.word refl
 
 -- a table of cells holds no map
 pub no_map_of_cells : IsMap Records → ⊥
@@ -40,9 +61,9 @@ no_map_of_cells e = absurd (true≢false (sym e))
 pub cells_step : (mode : Mode) → (IsMap mode → ⊥) → IsMap mode → (c : Call) (h : History) (s : Step) → IsMapStep c h (row_of c s h)
 cells_step mode none map c h s = absurd (none map)
 
--- their machines have nothing of a share: their pass keeps it
-abbrev pub no_share : Remaining
-no_share = record { next_node = 0; nodes = 0; next_scx = 0; scx = 0 }
+-- nor is anything said of what their machines have left
+abbrev pub AnyLeft : {M : Type 0} → M → PassMemory → Type 0
+AnyLeft m memory = Unit {0}
 
-pub cells_dealt : (mode : Mode) → (IsMap mode → ⊥) → IsMap mode → (s : Step) → FillsTaken no_share s
-cells_dealt mode none map s = absurd (none map)
+pub cells_dealt : (mode : Mode) → (IsMap mode → ⊥) → IsMap mode → (memory : PassMemory) (s : Step) → FillsDealt memory s
+cells_dealt mode none map memory s = absurd (none map)

@@ -4,8 +4,19 @@ use Rattle.atomic_table.specs.declared.shared.Seat.{Seat}
 use Rattle.histories.specs.Common.{Ghosts as Machine, Call}
 use Rattle.arena.specs.declared.machine.Shape.{Ghosts as Shape}
 use Rattle.forest.specs.declared.straight.hand.Hand.{Hand}
+use Rattle.forest.specs.declared.memory.PassMemory.{PassMemory}
 use Rattle.forest.specs.declared.view.SeatView.{SeatView}
+use Rattle.arena.specs.declared.layout.Layout.{Layout}
+use Rattle.slots.specs.Lasting.{Lasting}
 use Rattle.forest.specs.CallKinds.{Calls, calls}
+use Rattle.forest.specs.Slotted.{names_of_table, slots_of_table}
+
+-- how the records of its table have slots, and the layout of their names
+abbrev pub hand_slots : {S : Type 0} → Hand S → Lasting
+hand_slots hand = slots_of_table hand.words.now.table.shared.key
+
+abbrev pub names : {S : Type 0} → Hand S → Layout
+names hand = names_of_table hand.words.now.table.shared.key
 
 -- the seat is at the table that has its words
 abbrev pub IsAt : {S : Type 0} → Hand S → Seat ℕ SeatView → Type 0
@@ -13,8 +24,8 @@ IsAt hand seat = seat.table_id ≡ hand.words.now.table.shared.table_id
 
 -- the call has its layout and its number
 abbrev pub IsCallOf : {S : Type 0} → Hand S → Call → Type 0
-IsCallOf hand call = (call.layout ≡ hand.layout.now) × (call.number ≡ hand.number)
+IsCallOf hand call = (call.layout ≡ names hand) × (call.number ≡ hand.number)
 
 -- the calls of a machine under a shape that it is of
-abbrev pub hand_calls : {S T M A : Type 0} → Shape T → Machine M T A → Hand S → Calls M
-hand_calls s m hand = calls s m hand.layout.now hand.number
+abbrev pub hand_calls : {S T M A : Type 0} → Shape T → Machine M T A → (M → PassMemory → Type 0) → Hand S → Calls M
+hand_calls s m left hand = calls s m left (names hand) hand.number

@@ -51,19 +51,19 @@ pub record HasHostedAnswered {M N A : Type 0} {o : Calls M} {i : InnerCall N A} 
 module _ {M N A : Type 0} {o : Calls M} {i : InnerCall N A} (k : Host o i) (ps : List SeatedPass) where
   -- its inner machine has not been called yet
   abbrev pub HostedBegins : N → Type 0
-  HostedBegins m = HoldsForCall o.allows ps k.call (λ h. o.ready (k.with_run m) k.call h None × Trace o.allows o.waits o.same k.call k.first (k.with_run m) h)
+  HostedBegins m = HoldsForCall o.allows (o.left_dealt k.first) ps k.call (λ h. o.ready (k.with_run m) k.call h None × Trace o.allows o.waits o.same k.call k.first (k.with_run m) h)
 
   -- its inner machine waits for this step
   abbrev pub HostedWaits : N → Step → Type 0
-  HostedWaits m step = Waits o.allows o.waits o.same k.call ps k.first (k.with_run m) step
+  HostedWaits m step = Waits o.allows o.waits o.same o.left_dealt k.call ps k.first (k.with_run m) step
 
   -- the step of its inner machine has found v
   abbrev pub HostedIsTold : N → ℕ → Type 0
-  HostedIsTold m v = Told o.allows o.waits o.same k.call ps k.first o.ready (k.with_run m) v
+  HostedIsTold m v = Told o.allows o.waits o.same o.left_dealt k.call ps k.first o.ready (k.with_run m) v
 
   -- its inner machine has answered, after what it got last
   abbrev pub HostedEnds : N → A → Type 0
-  HostedEnds m a = HoldsForCall o.allows ps k.call (HasHostedAnswered k m a)
+  HostedEnds m a = HoldsForCall o.allows (o.left_dealt k.first) ps k.call (HasHostedAnswered k m a)
 
   -- its inner machine waits for the step of this turn, or has answered as the turn says
   abbrev pub HostedStands : N → Turn A → Type 0

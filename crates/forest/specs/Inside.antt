@@ -32,8 +32,8 @@ module _ {M N : Type 0} (o : Calls M) (i : Inner N) where
 module _ {M N : Type 0} {o : Calls M} {i : Inner N} (k : Inside o i) (ps : List SeatedPass) where
   -- its inner machine waits for this step
   abbrev pub InnerWaits : N → Step → Type 0
-  InnerWaits m step = Waits o.allows o.waits o.same k.call ps k.first (k.with_run m) step
+  InnerWaits m step = Waits o.allows o.waits o.same o.left_dealt k.call ps k.first (k.with_run m) step
 
   -- the step of its inner machine has found v
   abbrev pub InnerIsTold : N → ℕ → Type 0
-  InnerIsTold m v = Told o.allows o.waits o.same k.call ps k.first o.ready (k.with_run m) v
+  InnerIsTold m v = Told o.allows o.waits o.same o.left_dealt k.call ps k.first o.ready (k.with_run m) v

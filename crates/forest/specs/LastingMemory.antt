@@ -1,11 +1,13 @@
 -- What passes of a table that lasts remember from one call to the next, and when it is so.
 use Rattle.std.specs.Prelude.{◌≡◌, ◌<◌, ◌⊎◌, ℕ, true, false, List, [], ◌∷◌, Option, Some, None, slice_index}
-use Rattle.histories.specs.Common.{Layout, Row, Word, History, Extends, IsWord, IsTakenNode, place, log, is_final}
+use Rattle.histories.specs.Common.{Layout, Fill, Row, Step, Word, History, Extends, IsWord, IsTakenNode, place, log, is_final}
 use Rattle.planting.specs.Plantings.{PlantingView}
+use Rattle.ordered_map.specs.Runs.{IsMapRun}
 use Rattle.touching.specs.Left.{HasLeft}
 use Rattle.resting.specs.Dead.{IsDead, IsMarkedRecord, IsUnborn, WasDoneWith}
 use Rattle.resting.specs.Periods.{IsRightNote, dead_by, out_of_reach}
 use Rattle.resting.specs.Records.{Record, record_of, the_node, the_scx}
+use Rattle.resting.specs.Rests.{HasRestedAt}
 use Rattle.slots.specs.Counts.{HasSeenRests, Tally}
 use Rattle.slots.specs.Held.{Held, IsHeld}
 use Rattle.slots.specs.Lasting.{IsOwnName, IsOwnRecord, IsUntaken, Lasting}
@@ -92,6 +94,10 @@ abbrev pub IsDealt : PassMemory → Record → Type 0
 IsDealt m (the_node n) = n < m.nodes_to
 IsDealt m (the_scx s) = s < m.scx_to
 
+-- what the step fills is dealt
+abbrev pub FillsDealt : PassMemory → Step → Type 0
+FillsDealt m s = s.kind ≡ Fill → IsDealt m (record_of s.word)
+
 -- what the pass remembers of names, of slots and of others is so
 pub record RemembersNames (t : Lasting) (planting : PlantingView) (now : Present) (o : ℕ) (m : PassMemory) : Type 0 where
   -- its names that are dealt and untaken are held, and none is that is not dealt
@@ -114,3 +120,7 @@ pub record RemembersWell (t : Lasting) (planting : PlantingView) (now : Present)
 -- so it is with each of these passes
 abbrev pub RememberWell : Lasting → PlantingView → Present → List SeatedPass → Type 0
 RememberWell t planting now ps = Each (λ p. RemembersWell t planting now p.number.0 p.memory) ps
+
+-- what a pass has taken and was never put in stays so, if it rests
+abbrev pub StaysUnborn : Layout → Type 0
+StaysUnborn lay = (h : History) (p : ℕ) (rest : History) (n : ℕ) → p < lay.passes → IsMapRun lay h → HasRestedAt lay h p rest → IsUnborn lay p rest n → IsUnborn lay p h n

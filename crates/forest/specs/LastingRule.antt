@@ -4,16 +4,15 @@ use Rattle.std.specs.Prelude.{◌≡◌, ◌++◌, ℕ, false, List, [], ◌∷�
 use mathlib.Core.Option.{some}
 use lib.ListN.{get_elem?}
 use Rattle.atomic_table.specs.Table.{State}
-use Rattle.histories.specs.Common.{Layout, Fill, Row, History, IsRun, Word, value}
+use Rattle.histories.specs.Common.{Layout, Row, History, IsRun, Word, value}
 use Rattle.planting.specs.Plantings.{PlantingView}
-use Rattle.resting.specs.Records.{record_of}
 use Rattle.slots.specs.Counts.{CountsRests, Tally}
 use Rattle.slots.specs.Held.{Held}
 use Rattle.slots.specs.Lasting.{Lasting}
 use Rattle.slots.specs.Window.{IsWindow}
 use Rattle.forest.specs.CallSteps.{IsOfMapCall}
 use Rattle.forest.specs.TableRule.{ByOthers, MayStep, Owns, history_of, past_of, seated_pass}
-use Rattle.forest.specs.LastingMemory.{AreHeldOrGone, IsDealt, RememberWell, present}
+use Rattle.forest.specs.LastingMemory.{AreHeldOrGone, FillsDealt, RememberWell, present}
 use Rattle.forest.specs.declared.view.SeatView.{SeatView}
 use Rattle.forest.specs.declared.memory.PassMemory.{PassMemory}
 use Rattle.forest.specs.declared.rule.CallStep.{CallStep}
@@ -44,10 +43,6 @@ pub record TableLasts (allows : Layout → History → ℕ → Type 0) (t : Last
   pub passes : (id : ℕ) (v : SeatView) → get_elem? s.views id ≡ some v → Owns (plot_in t planting) run.rows owner id v.passes
   pub memories : (id : ℕ) (v : SeatView) → get_elem? s.views id ≡ some v → RememberWell t planting (present s.words (history_of planting run.rows) run.last run.held run.tally) v.passes
 
--- what the step fills is dealt
-abbrev pub FillsDealt : CallStep → PassMemory → Type 0
-FillsDealt said m = said.step.kind ≡ Fill → IsDealt m (record_of said.step.word)
-
 -- The pass may make the step: it is there, and the step is lawful, and one of a map's call that
 -- began since its last rest; and what it fills is dealt. So of names that nobody has taken it comes
 -- only to dealt ones: a call comes to such a name only to fill it.
@@ -55,7 +50,7 @@ pub record MayStepOn (allows : Layout → History → ℕ → Type 0) (said : Ca
   pub may : MayStep allows said p
   pub of_call : IsOfMapCall allows said p
   pub there : p.memory.away ≡ false
-  pub dealt : FillsDealt said p.memory
+  pub dealt : FillsDealt p.memory said.step
 
 -- The only pass of a seat has come to know the whole run, with which others have gone on, and
 -- remembers by then what `after` makes of the run.

@@ -22,6 +22,7 @@ pub mod Inside
 pub mod Hosts
 pub mod TableRule
 pub mod Seats
+pub mod Slotted
 pub mod Leads
 pub mod InnerSteps
 pub mod JoinedSeats
@@ -37,3 +38,4 @@ pub mod LastingSlots
 pub mod LastingNames
 pub mod LastingRule
 pub mod LastingOpening
+pub mod Ruled

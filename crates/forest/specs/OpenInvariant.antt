@@ -11,14 +11,16 @@ use Rattle.dict.specs.Typed.{TypedAllows}
 use Rattle.dict.specs.Words.{IsWordOf}
 use Rattle.dict.specs.declared.dict.DictRun.{DictRun}
 use Rattle.dict.specs.declared.shape.Dict.{Dict}
+use Rattle.prims.specs.Shares.{share_end}
 use Rattle.forest.specs.declared.open.OpenCall.TheInside.{Inside}
 use Rattle.forest.specs.declared.pass.Pass.TheInside as pass
 use Rattle.forest.specs.declared.view.SeatView.{SeatView}
+use Rattle.forest.specs.CallSteps.{HasDictLeft}
 use Rattle.forest.specs.Opened.{OpenView}
 use Rattle.forest.specs.Passes.{PassView, run_of, steps_of, taken_of}
 use Rattle.forest.specs.PassInvariant.{IsPass}
 use Rattle.forest.specs.StraightCalls.{IsSameDictCall}
-use Rattle.forest.specs.TableRule.{no_memory, seated_pass}
+use Rattle.forest.specs.TableRule.{dealt_up_to, seated_pass}
 use Rattle.forest.specs.Traces.{Stands, known_of, planting_of, seat_steps, shared_nodes, weight, KnowsAs}
 
 -- what contracts see of a call that is held open
@@ -41,7 +43,7 @@ pass_as p s = record {
   number = record { 0 = p.number };
   layout = p.layout;
   share = p.share;
-  seat = record s { table_id = p.table; me = (record { passes = seated_pass p.number p.layout p.planting no_memory p.known ∷ [] }, []) };
+  seat = record s { table_id = p.table; me = (record { passes = seated_pass p.number p.layout p.planting (dealt_up_to (share_end p.share)) p.known ∷ [] }, []) };
   blamed = p.blamed;
   shape = record {};
 }
@@ -69,7 +71,7 @@ pub record IsOpen {K V B : Type 0} (valid_key : K → Type 0) (key : K → ℕ) 
   -- its machine, which began with the share of the pass, waits for a step, or has answered
   pub first : DictRun K V
   pub had : share_of first.run ≡ o.began.value.share
-  pub stands : Stands (TypedAllows (IsWordOf valid_key key) (IsWordOf valid_value value)) (DictWaits (IsWordOf valid_key key) (IsWordOf valid_value value)) (IsSameDictCall valid_key key valid_value value) (next_call o.began.value pass.is_pass) o.seat.me.0.passes first (DictAnswers valid_key key valid_value value) o.run o.turn
+  pub stands : Stands (TypedAllows (IsWordOf valid_key key) (IsWordOf valid_value value)) (DictWaits (IsWordOf valid_key key) (IsWordOf valid_value value)) (IsSameDictCall valid_key key valid_value value) HasDictLeft (next_call o.began.value pass.is_pass) o.seat.me.0.passes first (DictAnswers valid_key key valid_value value) o.run o.turn
   -- it has made no more steps than such a call may
   pub since : steps_of o.began.value ≤ seat_steps o.seat.me.0.passes
   pub steps : seat_steps o.seat.me.0.passes + weight o.turn (map_left o.run.run (shared_nodes o.layout)) ≤ steps_of o.began.value + most_steps (call_in o.run.run) o.run.tries (nodes_by trie (shared_nodes o.layout))

@@ -1,9 +1,10 @@
 -- What is true of the fields of every pass.
 use Rattle.std.specs.Prelude.{◌≡◌, ◌<◌, ℕ, []}
+use Rattle.arena.specs.Layout.{IsMap}
 use Rattle.histories.specs.Common.{Mode, Layout, History, IsRun}
 use Rattle.forest.specs.declared.pass.Pass.TheInside.{Inside}
-use Rattle.forest.specs.Traces.{IsSeated, known_of, planting_of, run_at}
-use Rattle.forest.specs.Shares.{IsBetweenCalls}
+use Rattle.forest.specs.Traces.{IsSeated, known_of, memory_of, planting_of, run_at}
+use Rattle.forest.specs.Shares.{EndsAsDealt, IsBetweenCalls}
 use Rattle.forest.specs.Passes.{PassView, HasBlamed}
 
 -- what contracts see of a pass
@@ -19,4 +20,6 @@ pub record IsPass (allows : Layout → History → ℕ → Type 0) (mode : Mode)
   pub is_pass : p.number.0 < p.layout.passes
   pub sound : IsRun allows p.layout (run_at p.seat.me.0.passes)
   pub rest : IsBetweenCalls p.layout p.number.0 (run_at p.seat.me.0.passes) p.share
+  -- in a map all that is left of its share is dealt
+  pub dealt : IsMap p.layout.mode → EndsAsDealt p.share (memory_of p.seat.me.0.passes)
   pub blamed : HasBlamed (pass_view p)

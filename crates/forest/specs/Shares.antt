@@ -1,8 +1,10 @@
 -- A pass between two calls, and its entries in the log.
-use Rattle.std.specs.Prelude.{ℕ, if◌then◌else◌, ◌==◌, List, [], ◌∷◌}
+use Rattle.std.specs.Prelude.{◌≡◌, ℕ, if◌then◌else◌, ◌==◌, List, [], ◌∷◌}
 use Rattle.histories.specs.Common.{Layout, Remaining, History, Entry}
 use Rattle.template.specs.Common.{AreFinished, IsShare}
-use Rattle.prims.specs.Shares.{IsUpperEnd}
+use Rattle.prims.specs.Shares.{IsUpperEnd, share_end}
+use Rattle.forest.specs.declared.memory.PassMemory.{PassMemory}
+use Rattle.forest.specs.TableRule.{dealt_to}
 
 -- pass c is between two calls: it has taken all of its share before what is left, and each
 -- SCX-record that it has taken is finished
@@ -11,6 +13,10 @@ pub record IsBetweenCalls (lay : Layout) (c : ℕ) (h : History) (left : Remaini
   -- what is left is all of its names from there on
   pub upper : IsUpperEnd lay c left
   pub over : AreFinished lay c left.next_scx h
+
+-- what is left of a pass's share ends where the names end that it remembers as dealt
+abbrev pub EndsAsDealt : Remaining → PassMemory → Type 0
+EndsAsDealt left memory = share_end left ≡ dealt_to memory
 
 -- the entries of pass c among these
 abbrev pub entries_of : ℕ → List Entry → List Entry

@@ -11,6 +11,7 @@ use Rattle.dict.specs.declared.dict.DictRun.{DictRun}
 use Rattle.dict.specs.WordReplies.{WordReply}
 use Rattle.template.specs.Common.{Reply, MapCall}
 use Rattle.forest.specs.declared.view.SeatedPass.{SeatedPass}
+use Rattle.forest.specs.CallSteps.{HasDictLeft}
 use Rattle.forest.specs.Traces.{CallBegins, Ends, HoldsForCall, Trace}
 
 -- a machine that makes this call with this many tries and this share, in the call of this number,
@@ -45,15 +46,15 @@ module _ {K V : Type 0} (valid_key : K → Type 0) (key : K → ℕ) (valid_valu
   module _ (c : Call) (ps : List SeatedPass) (first : DictRun K V) where
     -- a call begins with the machine `first`
     abbrev pub SeatDictBegins : Type 0
-    SeatDictBegins = CallBegins DictAllows DictCallIsReady c ps first
+    SeatDictBegins = CallBegins DictAllows DictCallIsReady HasDictLeft c ps first
 
     -- the machine inside has ended with this reply, in words
     abbrev pub SeatWordEnds : DictRun K V → WordReply → Type 0
-    SeatWordEnds m w = HoldsForCall DictAllows ps c (λ h. (IsMap c.layout.mode × MapAnswers m.tries m.run c h w) × Trace DictAllows DictCallWaits IsSameDictCall c first m h)
+    SeatWordEnds m w = HoldsForCall DictAllows (HasDictLeft first) ps c (λ h. (IsMap c.layout.mode × MapAnswers m.tries m.run c h w) × Trace DictAllows DictCallWaits IsSameDictCall c first m h)
 
     -- the call has ended with this reply
     abbrev pub SeatDictEnds : DictRun K V → Reply K V → Type 0
-    SeatDictEnds = Ends DictAllows DictCallWaits IsSameDictCall c ps first (DictAnswers valid_key key valid_value value)
+    SeatDictEnds = Ends DictAllows DictCallWaits IsSameDictCall HasDictLeft c ps first (DictAnswers valid_key key valid_value value)
 
   -- a call begins, with whichever machine of it that has not begun
   abbrev pub SeatCallBegins : Bool → Call → List SeatedPass → MapCall → Remaining → ℕ → ℕ → Type 0

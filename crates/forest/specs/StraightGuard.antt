@@ -16,10 +16,11 @@ use Rattle.edits.specs.declared.update.UpdateRun.{UpdateRun}
 use Rattle.prims.specs.declared.llx.LlxAt.TheVariants.{StateAgain}
 use Rattle.forest.specs.declared.straight.hand.Hand.{Hand}
 use Rattle.forest.specs.declared.straight.node.Reached.{Reached}
+use Rattle.forest.specs.declared.memory.PassMemory.{PassMemory}
 use Rattle.forest.specs.declared.view.SeatView.{SeatView}
 use Rattle.forest.specs.declared.view.SeatedPass.{SeatedPass}
 use Rattle.forest.specs.CallKinds.{Calls}
-use Rattle.forest.specs.Hands.{hand_calls}
+use Rattle.forest.specs.Hands.{hand_calls, hand_slots, names}
 use Rattle.forest.specs.Hosts.{HostedWaits}
 use Rattle.forest.specs.Leads.{steps_made}
 use Rattle.forest.specs.Seats.{StaysAtTable}
@@ -55,9 +56,9 @@ left_at_guard e m way goal head marked scx nodes = suc (update_left e (guarding_
 -- place of its walk: at the same table, in any call of the hand. It has kept the snapshot of its
 -- guard, if it has one, and is else as it was. The steps left to its walk and for its guard drop by
 -- at least those made.
-pub record BeginsToWalk {S T M A E B : Type 0} (s : Shape T) (m : Machine M T A) (e : EditMeaning E) (hand : Hand S) (way : Way) (goal : Goal) (old : Seat ℕ SeatView) (run : UpdateRun E B) (new : Seat ℕ SeatView) (now : UpdateRun E B) (place : Reached) : Type 0 where
+pub record BeginsToWalk {S T M A E B : Type 0} (s : Shape T) (m : Machine M T A) (left : M → PassMemory → Type 0) (e : EditMeaning E) (hand : Hand S) (way : Way) (goal : Goal) (old : Seat ℕ SeatView) (run : UpdateRun E B) (new : Seat ℕ SeatView) (now : UpdateRun E B) (place : Reached) : Type 0 where
   pub table : StaysAtTable old new
-  pub to : (u : Updater (hand_calls s m hand) e) → UpdaterBegins u old.me.0.passes run → UpdaterWalks u new.me.0.passes now way goal place
+  pub to : (u : Updater (hand_calls s m left hand) e) → UpdaterBegins u old.me.0.passes run → UpdaterWalks u new.me.0.passes now way goal place
   pub is : now ≡ record run { guard = now.guard }
-  pub stands : AsksHead hand.layout.now place.trail place.at place.start
-  pub steps : steps_made new + (suc (walk_left place.at (room way (shared_nodes hand.layout.now))) + 64 * e.most_looks run.edit) ≤ steps_made old + (3 * (2 + room way (shared_nodes hand.layout.now)) + 5 + 64 * all_looks (e.guard run.edit) (e.most_looks run.edit))
+  pub stands : AsksHead (hand_slots hand) place.trail place.at place.start
+  pub steps : steps_made new + (suc (walk_left place.at (room way (shared_nodes (names hand)))) + 64 * e.most_looks run.edit) ≤ steps_made old + (3 * (2 + room way (shared_nodes (names hand))) + 5 + 64 * all_looks (e.guard run.edit) (e.most_looks run.edit))

@@ -6,6 +6,7 @@ use Rattle.prims.specs.declared.llx.LlxAt.TheVariants.{Start, Marked, StateAgain
 use Rattle.forest.specs.declared.view.SeatedPass.{SeatedPass}
 use Rattle.forest.specs.Traces.{CallBegins, Waits, Ends}
 use Rattle.forest.specs.CallKinds.{Calls}
+use Rattle.forest.specs.CallSteps.{AnyLeft}
 use Rattle.forest.specs.Inside.{Inner, Inside, InnerIsTold, InnerWaits}
 
 -- the run of LLX of the node that is at a place
@@ -19,15 +20,15 @@ IsSameNode old now = now.node ≡ old.node
 module _ (allows : Layout → History → ℕ → Type 0) (c : Call) (ps : List SeatedPass) (node : NodeNo) where
   -- a call of LLX of the node begins
   abbrev pub SeatLlxBegins : Type 0
-  SeatLlxBegins = CallBegins allows (LlxIsReady allows) c ps (llx_at node Start)
+  SeatLlxBegins = CallBegins allows (LlxIsReady allows) AnyLeft c ps (llx_at node Start)
 
   -- the call waits for this step at this place
   abbrev pub SeatLlxWaits : LlxAt → Step → Type 0
-  SeatLlxWaits at = Waits allows (LlxWaits allows) IsSameNode c ps (llx_at node Start) (llx_at node at)
+  SeatLlxWaits at = Waits allows (LlxWaits allows) IsSameNode AnyLeft c ps (llx_at node Start) (llx_at node at)
 
   -- the call has ended with this answer
   abbrev pub SeatLlxEnds : Llx → Type 0
-  SeatLlxEnds a = (m : LlxRun) × Ends allows (LlxWaits allows) IsSameNode c ps (llx_at node Start) LlxAnswers m a
+  SeatLlxEnds a = (m : LlxRun) × Ends allows (LlxWaits allows) IsSameNode AnyLeft c ps (llx_at node Start) LlxAnswers m a
 
 -- an LLX of a node, in a call of its own, with its conditions for the runs that
 -- `inner` allows

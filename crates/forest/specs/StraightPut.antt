@@ -7,6 +7,7 @@ use Rattle.prims.specs.declared.scx.ScxAt.TheVariants.{Start as ScxStart}
 use Rattle.prims.specs.declared.put.PutAt.{PutAt}
 use Rattle.forest.specs.declared.straight.put.PutTask.{PutTask}
 use Rattle.forest.specs.declared.view.SeatedPass.{SeatedPass}
+use Rattle.forest.specs.CallSteps.{AnyLeft}
 use Rattle.forest.specs.Traces.{CallBegins, Waits, Told, Ends}
 
 -- the two runs are of one SCX: of one SCX-record, update, call and value
@@ -28,16 +29,16 @@ scx_at m at = record { value = m.value; scx = record { scx = m.scx.scx; call = m
 module _ (allows : Layout → History → ℕ → Type 0) (c : Call) (ps : List SeatedPass) (first : PutRun) where
   -- a call of SCX with a fresh cell begins with the run `first`
   abbrev pub SeatPutBegins : Type 0
-  SeatPutBegins = CallBegins allows (PutIsReady allows) c ps first
+  SeatPutBegins = CallBegins allows (PutIsReady allows) AnyLeft c ps first
 
   -- the call waits for this step, with the run at its place
   abbrev pub SeatPutWaits : PutRun → Step → Type 0
-  SeatPutWaits = Waits allows (PutWaits allows) IsSamePut c ps first
+  SeatPutWaits = Waits allows (PutWaits allows) IsSamePut AnyLeft c ps first
 
   -- the step of the place has found v
   abbrev pub SeatPutTold : PutRun → ℕ → Type 0
-  SeatPutTold = Told allows (PutWaits allows) IsSamePut c ps first (PutIsReady allows)
+  SeatPutTold = Told allows (PutWaits allows) IsSamePut AnyLeft c ps first (PutIsReady allows)
 
   -- the call has ended with this answer
   abbrev pub SeatPutEnds : PutRun → Scx → Type 0
-  SeatPutEnds = Ends allows (PutWaits allows) IsSamePut c ps first PutAnswers
+  SeatPutEnds = Ends allows (PutWaits allows) IsSamePut AnyLeft c ps first PutAnswers

@@ -19,10 +19,11 @@ use Rattle.order.specs.declared.run.ReadRun.{ReadRun}
 use Rattle.forest.specs.declared.straight.hand.Hand.{Hand}
 use Rattle.forest.specs.declared.straight.ordered_read.ReadStop.{ReadStop}
 use Rattle.forest.specs.declared.straight.ordered_read.ReadStop.TheVariants.{Again, Refused as RefusedSo}
+use Rattle.forest.specs.declared.memory.PassMemory.{PassMemory}
 use Rattle.forest.specs.declared.view.SeatView.{SeatView}
 use Rattle.forest.specs.declared.view.SeatedPass.{SeatedPass}
 use Rattle.forest.specs.CallKinds.{Calls}
-use Rattle.forest.specs.Hands.{hand_calls}
+use Rattle.forest.specs.Hands.{hand_calls, names}
 use Rattle.forest.specs.Hosts.{Host, HostedBegins, HostedEnds, HostedWaits, InnerCall}
 use Rattle.forest.specs.Leads.{Leads, steps_made}
 use Rattle.forest.specs.Seats.{StaysAtTable}
@@ -87,23 +88,23 @@ module _ {R A : Type 0} (means : ReadMeaning R A) where
   left_then nodes m (Err (Again children level n marked scx)) = suc (again_left m children level n marked scx nodes)
   left_then nodes m (Err (RefusedSo refused)) = 0
 
-module _ {S T M R A B : Type 0} (s : Shape T) (m : Machine M T B) (means : ReadMeaning R A) (hand : Hand S) where
+module _ {S T M R A B : Type 0} (s : Shape T) (m : Machine M T B) (left : M → PassMemory → Type 0) (means : ReadMeaning R A) (hand : Hand S) where
   -- in a call of the hand, a read has begun what comes next
   abbrev pub StandsToRead : Seat ℕ SeatView → ReadRun R → ReadNext → Type 0
-  StandsToRead seat run next = (r : Reader (hand_calls s m hand) means) × ReaderWaits r seat.me.0.passes run next
+  StandsToRead seat run next = (r : Reader (hand_calls s m left hand) means) × ReaderWaits r seat.me.0.passes run next
 
   -- From the old seat, about to do `next`, a read gets to the new one, about to do `behind`: at the
   -- same table, in any call of the hand. The steps left drop by at least those made, and by at
   -- least `fewer`.
   pub record ReadGoesOn (fewer : ℕ) (old : Seat ℕ SeatView) (run : ReadRun R) (next : Result ReadNext ReadStop) (new : Seat ℕ SeatView) (now : ReadRun R) (behind : Result ReadNext ReadStop) : Type 0 where
     pub table : StaysAtTable old new
-    pub to : (r : Reader (hand_calls s m hand) means) → ReaderGoesOn r old.me.0.passes run next → ReaderGoesOn r new.me.0.passes now behind
-    pub nearer : fewer + left_then means (shared_nodes hand.layout.now) now behind ≤ left_then means (shared_nodes hand.layout.now) run next
-    pub steps : steps_made new + left_then means (shared_nodes hand.layout.now) now behind ≤ steps_made old + left_then means (shared_nodes hand.layout.now) run next
+    pub to : (r : Reader (hand_calls s m left hand) means) → ReaderGoesOn r old.me.0.passes run next → ReaderGoesOn r new.me.0.passes now behind
+    pub nearer : fewer + left_then means (shared_nodes (names hand)) now behind ≤ left_then means (shared_nodes (names hand)) run next
+    pub steps : steps_made new + left_then means (shared_nodes (names hand)) now behind ≤ steps_made old + left_then means (shared_nodes (names hand)) run next
 
   -- from this seat, with a read that goes on so, it ends at that one
   abbrev pub ReadEndsFrom : Seat ℕ SeatView → ReadRun R → Result ReadNext ReadStop → Seat ℕ SeatView → ReadRun R → Result A Refused → Type 0
-  ReadEndsFrom old run next new now answer = Leads {K = Reader (hand_calls s m hand) means} old new (left_then means (shared_nodes hand.layout.now) run next) (λ r ps. ReaderGoesOn r ps run next) (λ r ps. ReaderEnds r ps now answer)
+  ReadEndsFrom old run next new now answer = Leads {K = Reader (hand_calls s m left hand) means} old new (left_then means (shared_nodes (names hand)) run next) (λ r ps. ReaderGoesOn r ps run next) (λ r ps. ReaderEnds r ps now answer)
 
   -- from this seat, with a read about to do `next`, it ends at that one
   abbrev pub ReadEnds : Seat ℕ SeatView → ReadRun R → ReadNext → Seat ℕ SeatView → ReadRun R → Result A Refused → Type 0

@@ -1,6 +1,5 @@
 -- Calls of updates, of whatever machine updates: at a place of it, or before it has begun.
 use Rattle.std.specs.Prelude.{◌≡◌, ℕ, suc, ◌+◌, ◌-◌, ◌*◌, ◌≤◌, List, [], Option, Some, None, Result, Ok, Err}
-use Rattle.arena.specs.Layout.{node_start}
 use Rattle.histories.specs.Common.{Layout, NodeWord, Ghosts as Machine, History, Remaining, ScxNo}
 use Rattle.arena.specs.declared.machine.Shape.{Ghosts as Shape}
 use Rattle.atomic_table.specs.declared.shared.Seat.{Seat}
@@ -25,14 +24,17 @@ use Rattle.prims.specs.Shares.{share_end}
 use Rattle.prims.specs.declared.scx.ScxAt.TheVariants.{Help}
 use Rattle.forest.specs.StraightScx.{all_frozen_load}
 use Rattle.forest.specs.declared.straight.hand.Hand.{Hand}
+use Rattle.forest.specs.declared.memory.PassMemory.{PassMemory}
 use Rattle.forest.specs.declared.view.SeatView.{SeatView}
 use Rattle.forest.specs.declared.view.SeatedPass.{SeatedPass}
 use Rattle.forest.specs.CallKinds.{Calls}
-use Rattle.forest.specs.Hands.{hand_calls}
+use Rattle.forest.specs.Hands.{hand_calls, names}
 use Rattle.forest.specs.Hosts.{Host, HostedBegins, HostedEnds, HostedIsTold, HostedWaits, InnerCall}
 use Rattle.forest.specs.Leads.{Leads, steps_made}
 use Rattle.forest.specs.Seats.{StaysAtTable}
 use Rattle.forest.specs.Traces.{Trace, HoldsForCall, shared_nodes}
+use Rattle.forest.specs.Slotted.{node_begins}
+use Rattle.slots.specs.Lasting.{Lasting}
 
 -- The second run is the same update further on, which has given up one try at most. Of the share
 -- no more is taken than may be, if this many tries may still take nodes, and this many an
@@ -108,7 +110,7 @@ module _ {M E : Type 0} {o : Calls M} {e : EditMeaning E} (u : Updater o e) (ps 
 
   -- its try may end so, after the last step whose result it got
   abbrev pub UpdaterStops : {A : Type 0} → UpdateRun E A → Found → Stop → Type 0
-  UpdaterStops m f stop = HoldsForCall o.allows ps u.call (λ h. HasTryStopped u m f stop h)
+  UpdaterStops m f stop = HoldsForCall o.allows (o.left_dealt u.first) ps u.call (λ h. HasTryStopped u m f stop h)
 
   -- it waits for the first step of what its try does next, or the try may end so
   abbrev pub UpdaterGoesOn : {A : Type 0} → UpdateRun E A → Found → Result Next Stop → Type 0
@@ -130,38 +132,38 @@ module _ {M E : Type 0} {o : Calls M} {e : EditMeaning E} (u : Updater o e) (ps 
   UpdaterLeaves a share = (m : UpdateRun E (Unit {0})) × (m.share ≡ share) × UpdaterEnds m a
 
 -- the words of the fresh node of this place begin there, and the piece is what the edit says of it
-abbrev pub IsFreshPiece : {E A : Type 0} → Layout → EditMeaning E → UpdateRun E A → Found → Nth → ℕ → Piece → Type 0
-IsFreshPiece lay e m f nth start p = (start ≡ node_start lay (nth_node m.nodes nth)) × (p ≡ pieces_now e m f nth)
+abbrev pub IsFreshPiece : {E A : Type 0} → Lasting → EditMeaning E → UpdateRun E A → Found → Nth → ℕ → Piece → Type 0
+IsFreshPiece t e m f nth start p = (start ≡ node_begins t (nth_node m.nodes nth)) × (p ≡ pieces_now e m f nth)
 
 -- how many steps are left to an update whose SCX could not freeze a node, if its HELP is there
 abbrev pub left_at_block : {E A : Type 0} → EditMeaning E → UpdateRun E A → HelpRun → ℕ → ℕ
 left_at_block e m help nodes = suc (m.tries * try_left e m.edit nodes + scx_left (Help help))
 
-module _ {S T M A E : Type 0} (s : Shape T) (m : Machine M T A) (e : EditMeaning E) (hand : Hand S) (f : Found) where
+module _ {S T M A E : Type 0} (s : Shape T) (m : Machine M T A) (left : M → PassMemory → Type 0) (e : EditMeaning E) (hand : Hand S) (f : Found) where
   -- in a call of the hand, a try that has found f is about to do `next`
   abbrev pub StandsToTry : {B : Type 0} → Seat ℕ SeatView → UpdateRun E B → Result Next Stop → Type 0
-  StandsToTry seat run next = (u : Updater (hand_calls s m hand) e) × UpdaterGoesOn u seat.me.0.passes run f next
+  StandsToTry seat run next = (u : Updater (hand_calls s m left hand) e) × UpdaterGoesOn u seat.me.0.passes run f next
 
   -- From the old seat, about to do `next`, a try gets to the new one, about to do `behind`: at the
   -- same table, in any call of the hand. The steps left drop by at least those made.
   pub record TryGoesOn {B C : Type 0} (old : Seat ℕ SeatView) (run : UpdateRun E B) (next : Result Next Stop) (new : Seat ℕ SeatView) (now : UpdateRun E C) (behind : Result Next Stop) : Type 0 where
     pub table : StaysAtTable old new
-    pub to : (u : Updater (hand_calls s m hand) e) → UpdaterGoesOn u old.me.0.passes run f next → UpdaterGoesOn u new.me.0.passes now f behind
+    pub to : (u : Updater (hand_calls s m left hand) e) → UpdaterGoesOn u old.me.0.passes run f next → UpdaterGoesOn u new.me.0.passes now f behind
     pub later : steps_made old ≤ steps_made new
-    pub steps : steps_made new + left_then e now f behind (shared_nodes hand.layout.now) ≤ steps_made old + left_then e run f next (shared_nodes hand.layout.now)
+    pub steps : steps_made new + left_then e now f behind (shared_nodes (names hand)) ≤ steps_made old + left_then e run f next (shared_nodes (names hand))
 
   -- from this seat, with a try about to do `next`, the update ends at that one, with this answer
   abbrev pub TryEnds : {B C : Type 0} → Seat ℕ SeatView → UpdateRun E B → Result Next Stop → Seat ℕ SeatView → UpdateRun E C → Updated → Type 0
-  TryEnds old run next new now answer = Leads {K = Updater (hand_calls s m hand) e} old new (left_then e run f next (shared_nodes hand.layout.now)) (λ u ps. UpdaterGoesOn u ps run f next) (λ u ps. UpdaterEnds u ps now answer)
+  TryEnds old run next new now answer = Leads {K = Updater (hand_calls s m left hand) e} old new (left_then e run f next (shared_nodes (names hand))) (λ u ps. UpdaterGoesOn u ps run f next) (λ u ps. UpdaterEnds u ps now answer)
 
   -- in a call of the hand, this word of the fresh node of this place is filled next, if one is
   abbrev pub StandsToFill : {B : Type 0} → Seat ℕ SeatView → UpdateRun E B → Nth → Option NodeWord → Type 0
-  StandsToFill seat run nth next = (u : Updater (hand_calls s m hand) e) × UpdaterFills u seat.me.0.passes run f nth next
+  StandsToFill seat run nth next = (u : Updater (hand_calls s m left hand) e) × UpdaterFills u seat.me.0.passes run f nth next
 
   -- From the old seat, where one word of the fresh node of this place is filled next, one gets to
   -- the new one, where another is, as `TryGoesOn` says.
   pub record FillGoesOn {B : Type 0} (run : UpdateRun E B) (nth : Nth) (p : Piece) (old : Seat ℕ SeatView) (next : Option NodeWord) (new : Seat ℕ SeatView) (behind : Option NodeWord) : Type 0 where
     pub table : StaysAtTable old new
-    pub to : (u : Updater (hand_calls s m hand) e) → UpdaterFills u old.me.0.passes run f nth next → UpdaterFills u new.me.0.passes run f nth behind
+    pub to : (u : Updater (hand_calls s m left hand) e) → UpdaterFills u old.me.0.passes run f nth next → UpdaterFills u new.me.0.passes run f nth behind
     pub later : steps_made old ≤ steps_made new
     pub steps : steps_made new + fills_then p behind ≤ steps_made old + fills_then p next

@@ -6,6 +6,7 @@ use Rattle.prims.specs.Vlx.Known.{VlxIsTold}
 use Rattle.forest.specs.declared.view.SeatedPass.{SeatedPass}
 use Rattle.forest.specs.Traces.{CallBegins, Ends}
 use Rattle.forest.specs.CallKinds.{Calls}
+use Rattle.forest.specs.CallSteps.{AnyLeft}
 use Rattle.forest.specs.Inside.{Inner, Inside, InnerWaits}
 
 -- the run of VLX over the snapshots that has asked for this many infos
@@ -32,11 +33,11 @@ module _ {L : Type 0} (list : L → List Snap) where
 module _ {L : Type 0} (list : L → List Snap) (allows : Layout → History → ℕ → Type 0) (c : Call) (ps : List SeatedPass) (snaps : L) where
   -- a call of VLX of the snapshots begins
   abbrev pub SeatVlxBegins : Type 0
-  SeatVlxBegins = CallBegins allows (ready_over list) c ps (vlx_at snaps 0)
+  SeatVlxBegins = CallBegins allows (ready_over list) AnyLeft c ps (vlx_at snaps 0)
 
   -- the call has ended with this answer
   abbrev pub SeatVlxEnds : Vlx → Type 0
-  SeatVlxEnds a = (m : VlxRun L) × Ends allows (waits_over list) AreSameSnaps c ps (vlx_at snaps 0) (answers_over list) m a
+  SeatVlxEnds a = (m : VlxRun L) × Ends allows (waits_over list) AreSameSnaps AnyLeft c ps (vlx_at snaps 0) (answers_over list) m a
 
 -- a VLX of these snapshots, in a call of its own, that has asked for this many infos
 abbrev pub inner_vlx : List Snap → Inner ℕ

@@ -2,7 +2,6 @@
 use Rattle.std.specs.Prelude.{◌≡◌, ◌⊎◌, ℕ, ◌+◌, ◌<◌, ◌≤◌, Bool, true, false, List}
 use Rattle.atomic_table.specs.declared.shared.Seat.{Seat}
 use Rattle.histories.specs.Common.{Layout, NodeNo, Step, History, value, Call, LoadChild, LoadSettled, Settled, Head as HeadWord, Side, child, node, head_of, Ghosts as Machine}
-use Rattle.arena.specs.Layout.{node_start}
 use Rattle.arena.specs.declared.head.Head.{Head}
 use Rattle.arena.specs.declared.machine.Shape.{Ghosts as Shape}
 use Rattle.template.specs.Common.{load, path_key, FoundBy, WalkIsTold, WalkWaits, IsPastRoot, Goal}
@@ -20,6 +19,7 @@ use Rattle.template.specs.declared.walk.Way.{Way}
 use Rattle.order.specs.declared.last_turns.LastTurns.{LastTurns}
 use Rattle.forest.specs.declared.straight.hand.Hand.{Hand}
 use Rattle.forest.specs.declared.straight.node.Reached.{Reached}
+use Rattle.forest.specs.declared.memory.PassMemory.{PassMemory}
 use Rattle.forest.specs.declared.view.SeatView.{SeatView}
 use Rattle.forest.specs.declared.view.SeatedPass.{SeatedPass}
 use Rattle.forest.specs.CallKinds.{Calls}
@@ -27,6 +27,8 @@ use Rattle.forest.specs.Hands.{hand_calls}
 use Rattle.forest.specs.Leads.{steps_made}
 use Rattle.forest.specs.Traces.{shared_nodes}
 use Rattle.forest.specs.Inside.{Inner, Inside, InnerIsTold, InnerWaits}
+use Rattle.forest.specs.Slotted.{node_begins}
+use Rattle.slots.specs.Lasting.{Lasting}
 
 -- the second walk goes to the same goal, by the same way
 abbrev pub GoesAs : WalkRun → WalkRun → Type 0
@@ -59,16 +61,16 @@ with_turn_if false side n turns = turns
 
 -- at this place a walk asks for the head of the node that its trail has reached, whose words begin
 -- there
-pub record AsksHead (lay : Layout) (trail : Trail) (at : WalkAt) (start : ℕ) : Type 0 where
+pub record AsksHead (t : Lasting) (trail : Trail) (at : WalkAt) (start : ℕ) : Type 0 where
   pub place : LoadsHead at
-  pub begins : start ≡ node_start lay trail.node
+  pub begins : start ≡ node_begins t trail.node
 
 -- a walk by this way has gone down from a fork of this level to a node, whose head it asks for: it
 -- is no deeper than there is room for in a table of this layout
-pub record AsksBelow (lay : Layout) (way : Way) (level : ℕ) (place : Reached) : Type 0 where
+pub record AsksBelow (t : Lasting) (way : Way) (level : ℕ) (place : Reached) : Type 0 where
   pub at : place.at ≡ AtHead level
-  pub deep : level + 1 < 2 + room way (shared_nodes lay)
-  pub begins : place.start ≡ node_start lay place.trail.node
+  pub deep : level + 1 < 2 + room way (shared_nodes t.lay)
+  pub begins : place.start ≡ node_begins t place.trail.node
 
 -- the head is that of a fork whose key a walk to this goal loads
 pub record IsAskedFork (goal : Goal) (head : Head) : Type 0 where
@@ -121,35 +123,35 @@ module _ {M : Type 0} {o : Calls M} (w : Walker o) (ps : List SeatedPass) where
     pub finds : (d : Call) (h : History) → WalkIsTold last d h told → FoundBy way goal d h f
     pub so : WalkerIsTold last turn told
 
-module _ {S T M A : Type 0} (s : Shape T) (m : Machine M T A) (hand : Hand S) where
+module _ {S T M A : Type 0} (s : Shape T) (m : Machine M T A) (left : M → PassMemory → Type 0) (hand : Hand S) where
   -- the walk of a call of the hand is here, and its last step has found v
   abbrev pub HasWalked : Seat ℕ SeatView → WalkRun → ℕ → Type 0
-  HasWalked seat walk v = (w : Walker (hand_calls s m hand)) × (turn : LastTurns) × WalkerIsTold w seat.me.0.passes walk turn v
+  HasWalked seat walk v = (w : Walker (hand_calls s m left hand)) × (turn : LastTurns) × WalkerIsTold w seat.me.0.passes walk turn v
 
   -- whichever call it is whose walk was here at the old seat, and had found v: at the new seat that
   -- has found f in the end
   abbrev pub WalkFinds : Seat ℕ SeatView → WalkRun → ℕ → Seat ℕ SeatView → Found → Type 0
-  WalkFinds old walk v new f = (w : Walker (hand_calls s m hand)) (turn : LastTurns) → WalkerIsTold w old.me.0.passes walk turn v → WalkerFinds w new.me.0.passes walk.way walk.goal turn f
+  WalkFinds old walk v new f = (w : Walker (hand_calls s m left hand)) (turn : LastTurns) → WalkerIsTold w old.me.0.passes walk turn v → WalkerFinds w new.me.0.passes walk.way walk.goal turn f
 
   -- or it goes down to this side of the fork, with the head in this word: there it has turned last
   -- if that counts
   abbrev pub WalkGoesDown : Seat ℕ SeatView → WalkRun → ℕ → Seat ℕ SeatView → Side → Bool → Type 0
-  WalkGoesDown old walk word new side counts = (w : Walker (hand_calls s m hand)) (turn : LastTurns) → WalkerIsTold w old.me.0.passes walk turn word → WalkerGoesDown w new.me.0.passes walk.way walk.goal walk.trail (head_of word).level side (with_turn_if counts side walk.trail.node turn)
+  WalkGoesDown old walk word new side counts = (w : Walker (hand_calls s m left hand)) (turn : LastTurns) → WalkerIsTold w old.me.0.passes walk turn word → WalkerGoesDown w new.me.0.passes walk.way walk.goal walk.trail (head_of word).level side (with_turn_if counts side walk.trail.node turn)
 
   -- a call of the hand is to walk by this way to this goal, from the root on
   abbrev pub MayWalk : Seat ℕ SeatView → Way → Goal → Type 0
-  MayWalk seat way goal = (w : Walker (hand_calls s m hand)) × WalksFromRoot w seat.me.0.passes way goal
+  MayWalk seat way goal = (w : Walker (hand_calls s m left hand)) × WalksFromRoot w seat.me.0.passes way goal
 
   -- whichever call was to do so at the old seat: at the new one its walk has found f in the end,
   -- and these forks are the last where it has turned
   abbrev pub WalkEnds : Seat ℕ SeatView → Way → Goal → Seat ℕ SeatView → LastTurns → Found → Type 0
-  WalkEnds old way goal new turns f = (w : Walker (hand_calls s m hand)) → WalksFromRoot w old.me.0.passes way goal → WalkerFinds w new.me.0.passes way goal turns f
+  WalkEnds old way goal new turns f = (w : Walker (hand_calls s m left hand)) → WalksFromRoot w old.me.0.passes way goal → WalkerFinds w new.me.0.passes way goal turns f
 
   -- a call of the hand is to walk by this way to this goal, from this place on
   abbrev pub MayWalkFrom : Seat ℕ SeatView → Way → Goal → Reached → Type 0
-  MayWalkFrom seat way goal first = (w : Walker (hand_calls s m hand)) × WalkerIsAt w seat.me.0.passes way goal first
+  MayWalkFrom seat way goal first = (w : Walker (hand_calls s m left hand)) × WalkerIsAt w seat.me.0.passes way goal first
 
   -- whichever call was to do so at the old seat: at the new one its walk has found f in the end,
   -- and these forks are the last where it has turned
   abbrev pub WalkEndsFrom : Seat ℕ SeatView → Way → Goal → Reached → Seat ℕ SeatView → LastTurns → Found → Type 0
-  WalkEndsFrom old way goal first new turns f = (w : Walker (hand_calls s m hand)) → WalkerIsAt w old.me.0.passes way goal first → WalkerFinds w new.me.0.passes way goal turns f
+  WalkEndsFrom old way goal first new turns f = (w : Walker (hand_calls s m left hand)) → WalkerIsAt w old.me.0.passes way goal first → WalkerFinds w new.me.0.passes way goal turns f

@@ -1,14 +1,18 @@
 -- The rule of the table: what its words and the views of all seats have to do with one lawful run.
-use Rattle.std.specs.Prelude.{◌≡◌, ◌≢◌, ◌<◌, ℕ, zero, suc, false, List, [], ◌∷◌, ◌++◌, length, slice_index}
+use Rattle.std.specs.Prelude.{◌≡◌, ◌≢◌, ◌<◌, ℕ, zero, suc, false, List, [], ◌∷◌, ◌++◌, length, None, slice_index}
 use mathlib.Core.Option.{some}
 use lib.ListN.{get_elem?}
 use Rattle.atomic_table.specs.Seated.{TableId}
 use Rattle.atomic_table.specs.Table.{State}
+use Rattle.arena.specs.Share.{whole_share}
 use Rattle.histories.specs.Common.{Layout, Settled, Head, Word, LoadSettled, Load, Row, place, table_size, IsWord, node, word_after, History, Opened, ◌⊳◌, value, IsRun, IsTold}
 use Rattle.planting.specs.Plantings.{PlantingView, opening_for}
+use Rattle.prims.specs.Shares.{share_end}
+use Rattle.slots.specs.Lasting.{Lasting, slot_word, table_place}
 use Rattle.forest.specs.declared.rule.CallStep.{CallStep}
 use Rattle.forest.specs.declared.memory.PassMemory.{PassMemory}
 use Rattle.forest.specs.declared.rule.Plot.{Plot}
+use Rattle.forest.specs.declared.rule.Site.{Site}
 use Rattle.forest.specs.declared.view.SeatedPass.{SeatedPass}
 use Rattle.forest.specs.declared.view.SeatView.{SeatView}
 
@@ -25,6 +29,18 @@ seated_pass n lay planting memory rows = record { number = record { 0 = n }; lay
 -- what a pass remembers that has not rested, and has noted nothing
 abbrev pub no_memory : PassMemory
 no_memory = record { rested = []; away = false; often = 0; nodes_to = 0; scx_to = 0; notes = []; polls = []; holds = []; empty = []; zeros = [] }
+
+-- where its names end that are dealt: the nodes, and the SCX-records
+abbrev pub dealt_to : PassMemory → ℕ × ℕ
+dealt_to m = (m.nodes_to, m.scx_to)
+
+-- what a pass remembers that has its names dealt up to there, and nothing else
+abbrev pub dealt_up_to : ℕ × ℕ → PassMemory
+dealt_up_to end = record no_memory { nodes_to = end.0; scx_to = end.1 }
+
+-- what pass c remembers where all of its names are dealt from the start
+abbrev pub all_dealt : Layout → ℕ → PassMemory
+all_dealt lay c = dealt_up_to (share_end (whole_share lay c))
 
 -- what a seat knows that has these passes
 abbrev pub seat_view : List SeatedPass → SeatView
@@ -117,9 +133,9 @@ abbrev pub passes_with : (ℕ → PassMemory) → Plot → ℕ → ℕ → List 
 passes_with memory plot from zero = []
 passes_with memory plot from (suc n) = seated_pass from plot.layout plot.planting (memory from) [] ∷ passes_with memory plot (suc from) n
 
--- so many that remember nothing either
+-- so many that have all of their names dealt
 abbrev pub new_passes : Plot → ℕ → ℕ → List SeatedPass
-new_passes = passes_with (λ c. no_memory)
+new_passes plot = passes_with (all_dealt plot.layout) plot
 
 -- the passes after the first
 abbrev pub rest_of : List SeatedPass → List SeatedPass
@@ -143,16 +159,16 @@ first_of_seat v = seat_view (first_of v.passes)
 abbrev pub joined_seat : SeatView → SeatView → SeatView
 joined_seat v w = seat_view (v.passes ++ w.passes)
 
--- the table has as many words as this layout
-abbrev pub IsTableOf : TableId → Plot → Layout → Type 0
-IsTableOf id key lay = (id.words ≡ table_size lay) × (key.layout ≡ lay)
+-- the table has as many words as this layout, and each record a place of its own
+abbrev pub IsTableOf : TableId → Site → Layout → Type 0
+IsTableOf id site lay = (id.words ≡ table_size lay) × (site.layout ≡ lay) × (site.turns ≡ None)
 
--- a word of this layout is at this place, and no other
-pub record IsPlaceOf (lay : Layout) (word : Word) (at : ℕ) : Type 0 where
-  pub is_word : IsWord lay word
-  pub is_place : at ≡ place lay word
-  pub inside : at < table_size lay
-  pub apart : (other : Word) → IsWord lay other → place lay other ≡ at → other ≡ word
+-- a word of a record that has a name is at this place, where no other word of its slot is
+pub record IsPlaceOf (t : Lasting) (word : Word) (at : ℕ) : Type 0 where
+  pub is_word : IsWord t.lay word
+  pub is_place : at ≡ table_place t word
+  pub inside : at < table_size t.table
+  pub apart : (other : Word) → IsWord t.table other → place t.table other ≡ at → other ≡ slot_word t word
 
 -- a seat of one pass, of this layout
 pub record IsAlone (lay : Layout) (ps : List SeatedPass) : Type 0 where

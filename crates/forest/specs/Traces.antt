@@ -1,5 +1,5 @@
 -- The course of a call: the rows that the run has got while it was made.
-use Rattle.std.specs.Prelude.{◌≡◌, ◌≢◌, ◌==◌, if◌then◌else◌, ℕ, suc, List, [], ◌∷◌, Option, Some, None}
+use Rattle.std.specs.Prelude.{◌≡◌, ◌≢◌, ◌==◌, if◌then◌else◌, ℕ, suc, false, List, [], ◌∷◌, Option, Some, None}
 use Rattle.histories.specs.Common.{Layout, Row, Step, History, ◌⊳◌, Extends, Call, IsRun, MatchTurn, row_of, Turn, Ask, Done, most_taken}
 use Rattle.forest.specs.declared.memory.PassMemory.{PassMemory}
 use Rattle.forest.specs.declared.view.SeatedPass.{SeatedPass}
@@ -18,43 +18,45 @@ pub data Trace {M : Type 0} (allows : Layout → History → ℕ → Type 0) (wa
   -- the machine continued, with what it got
   goes_on : {m : M} {h : History} (old : M) → same old m → Trace allows waits same c first old h → Trace allows waits same c first m h
 
--- The seat has the pass of the call alone, which knows these rows; and the call began when the pass
--- had rested last, or later.
-pub record IsInCall (ps : List SeatedPass) (c : Call) (planting : PlantingView) (known : List Row) : Type 0 where
+-- The seat has the pass of the call alone, which knows these rows, and is there; and the call began
+-- when the pass had rested last, or later. What its first machine had left of the share is dealt.
+pub record IsInCall (left_dealt : PassMemory → Type 0) (ps : List SeatedPass) (c : Call) (planting : PlantingView) (known : List Row) : Type 0 where
   pub memory : PassMemory
   pub alone : ps ≡ seated_pass c.pass c.layout planting memory known ∷ []
   pub since : Extends c.start (history_of planting memory.rested)
+  pub there : memory.away ≡ false
+  pub left : left_dealt memory
 
 -- so it is in the call, and P holds of the run that the pass knows
-pub record HoldsForCall (allows : Layout → History → ℕ → Type 0) (ps : List SeatedPass) (c : Call) (P : History → Type 0) : Type 0 where
+pub record HoldsForCall (allows : Layout → History → ℕ → Type 0) (left_dealt : PassMemory → Type 0) (ps : List SeatedPass) (c : Call) (P : History → Type 0) : Type 0 where
   pub planting : PlantingView
   pub known : List Row
-  pub is : IsInCall ps c planting known
+  pub is : IsInCall left_dealt ps c planting known
   pub sound : IsRun allows c.layout (history_of planting known)
   pub so : P (history_of planting known)
 
--- Where a call of a machine is that began with the
--- machine `first`, as the one pass of a seat knows it
-module _ {M : Type 0} (allows : Layout → History → ℕ → Type 0) (waits : M → Call → History → Step → Type 0) (same : M → M → Type 0) (c : Call) (ps : List SeatedPass) (first : M) where
+-- Where a call of a machine is that began with the machine `first`, as the one pass of a seat knows
+-- it, whose memory says what is dealt of the share that the machine had left
+module _ {M : Type 0} (allows : Layout → History → ℕ → Type 0) (waits : M → Call → History → Step → Type 0) (same : M → M → Type 0) (left_dealt : M → PassMemory → Type 0) (c : Call) (ps : List SeatedPass) (first : M) where
   -- the machine waits for this step
   abbrev pub Waits : M → Step → Type 0
-  Waits m step = HoldsForCall allows ps c (λ h. waits m c h step × Trace allows waits same c first m h)
+  Waits m step = HoldsForCall allows (left_dealt first) ps c (λ h. waits m c h step × Trace allows waits same c first m h)
 
   -- the machine may get v, which its step has found
   abbrev pub Told : (M → Call → History → Option ℕ → Type 0) → M → ℕ → Type 0
-  Told ready m v = HoldsForCall allows ps c (λ h. ready m c h (Some v) × Trace allows waits same c first m h)
+  Told ready m v = HoldsForCall allows (left_dealt first) ps c (λ h. ready m c h (Some v) × Trace allows waits same c first m h)
 
   -- the machine has answered a
   abbrev pub Ends : {A : Type 0} → (M → Call → History → A → Type 0) → M → A → Type 0
-  Ends answers m a = HoldsForCall allows ps c (λ h. answers m c h a × Trace allows waits same c first m h)
+  Ends answers m a = HoldsForCall allows (left_dealt first) ps c (λ h. answers m c h a × Trace allows waits same c first m h)
 
   -- the machine waits for the step of this turn, or has answered as the turn says
   abbrev pub Stands : {A : Type 0} → (M → Call → History → A → Type 0) → M → Turn A → Type 0
   Stands answers m turn = MatchTurn turn (Waits m) (Ends answers m)
 
 -- a call begins with this machine
-abbrev pub CallBegins : {M : Type 0} → (Layout → History → ℕ → Type 0) → (M → Call → History → Option ℕ → Type 0) → Call → List SeatedPass → M → Type 0
-CallBegins allows ready c ps first = HoldsForCall allows ps c (λ h. (c.start ≡ h) × ready first c h None)
+abbrev pub CallBegins : {M : Type 0} → (Layout → History → ℕ → Type 0) → (M → Call → History → Option ℕ → Type 0) → (M → PassMemory → Type 0) → Call → List SeatedPass → M → Type 0
+CallBegins allows ready left_dealt c ps first = HoldsForCall allows (left_dealt first) ps c (λ h. (c.start ≡ h) × ready first c h None)
 
 -- how many of these rows are of the pass c
 abbrev pub rows_of : ℕ → List Row → ℕ
@@ -97,11 +99,12 @@ memory_of (p ∷ ps) = p.memory
 abbrev pub rest_at : List SeatedPass → History
 rest_at ps = history_of (planting_of ps) (memory_of ps).rested
 
--- A seat has the pass of this number alone, which has rested last at a moment of the run that it
--- knows.
+-- A seat has the pass of this number alone, which is there, and has rested last at a moment of the
+-- run that it knows.
 pub record IsSeated (n : ℕ) (lay : Layout) (ps : List SeatedPass) : Type 0 where
   pub alone : ps ≡ seated_pass n lay (planting_of ps) (memory_of ps) (known_of ps) ∷ []
   pub since : Extends (run_at ps) (rest_at ps)
+  pub there : (memory_of ps).away ≡ false
 
 -- a seat's one pass knows these rows, in a table that is planted so
 abbrev pub KnowsAs : List SeatedPass → PlantingView → List Row → Type 0

@@ -1,16 +1,13 @@
 //! The machines of a forest's calls, and what the rule of its table may know of their steps.
-ghost use Rattle.std.specs.Prelude.{◌≡◌, refl};
 ghost use Rattle.arena.specs.declared.step.Step.{Step};
 ghost use Rattle.arena.specs.History.{History};
 ghost use Rattle.arena.specs.Layout.{IsMap};
 ghost use Rattle.arena.specs.Machines.{Call, row_of};
-ghost use Rattle.arena.specs.Share.{Remaining};
-ghost use Rattle.prims.specs.Shares.{share_end};
-ghost use Rattle.edits.specs.Taken.{FillsTaken};
-ghost use Rattle.dict.specs.Calls.{share_of};
 ghost use Rattle.dict.specs.Words.{IsWordOf};
 ghost use Rattle.touching.specs.Steps.{IsMapStep};
-ghost use Rattle.forest.specs.CallSteps.{cells_dealt, cells_step, dict_dealt, dict_step, no_map_of_cells, no_share};
+ghost use Rattle.forest.specs.CallSteps.{AnyLeft, HasDictLeft, cells_dealt, cells_step, dict_dealt, dict_keeps_left, dict_step, no_map_of_cells};
+ghost use Rattle.forest.specs.LastingMemory.{FillsDealt};
+ghost use Rattle.forest.specs.declared.memory.PassMemory.{PassMemory};
 
 use arena::{Machine, Shape};
 use dict::{Dict, DictRun, WordKey, WordValue};
@@ -22,14 +19,17 @@ pub trait CallMachine<S: Shape>: Machine<S> {
     /// In a map each step for which it waits is one of a map's call.
     ghost of_call: { (m : Self) (c : Call) (h : History) (s : Step) → IsMap S.mode → Self.waits m c h s → IsMapStep c h (row_of c s h) };
 
-    /// What it has left of its pass's share, in a map.
-    ghost share_left: { Self → Remaining };
+    /// What it has left of its pass's share ends where the names end that the pass has dealt, as
+    /// far as that is asked of it.
+    ghost left_dealt: { Self → PassMemory → Type 0 };
 
-    /// In a map it fills only what it has taken of that.
-    ghost dealt: { (m : Self) (c : Call) (h : History) (s : Step) → IsMap S.mode → Self.waits m c h s → FillsTaken (share_left m) s };
+    /// It does so where the machine continues.
+    ghost keeps_left: { (old now : Self) (memory : PassMemory)
+        → Self.same old now → left_dealt old memory → left_dealt now memory };
 
-    /// What it has left ends where it did.
-    ghost keeps_end: { (old now : Self) → Self.same old now → share_end (share_left now) ≡ share_end (share_left old) };
+    /// Where it does, each step for which the machine waits in a map fills only what is dealt.
+    ghost dealt: { (m : Self) (c : Call) (h : History) (s : Step) (memory : PassMemory)
+        → IsMap S.mode → Self.waits m c h s → left_dealt m memory → FillsDealt memory s };
 }
 
 /// A shape of tables that hold no map.
@@ -45,39 +45,39 @@ impl CellShape for Cells {
 impl<K: WordKey, V: WordValue, B: FixedBalance> CallMachine<Dict<K, V, B>> for DictRun<K, V> {
     ghost of_call = { λ m c h s map waits. dict_step (IsWordOf K.is_valid K.word_of) (IsWordOf V.is_valid V.word_of) m c h s waits };
 
-    ghost share_left = { λ m. share_of m.run };
+    ghost left_dealt = { HasDictLeft };
 
-    ghost dealt = { λ m c h s map waits. dict_dealt (IsWordOf K.is_valid K.word_of) (IsWordOf V.is_valid V.word_of) m c h s waits };
+    ghost keeps_left = { λ old now memory same left. dict_keeps_left old now memory same.4 left };
 
-    ghost keeps_end = { λ old now same. same.4 };
+    ghost dealt = { λ m c h s memory map waits left. dict_dealt (IsWordOf K.is_valid K.word_of) (IsWordOf V.is_valid V.word_of) m c h s memory waits left };
 }
 
 impl<S: CellShape> CallMachine<S> for LlxRun {
     ghost of_call = { λ m c h s map waits. cells_step S.mode S.no_map map c h s };
 
-    ghost share_left = { λ m. no_share };
+    ghost left_dealt = { AnyLeft };
 
-    ghost dealt = { λ m c h s map waits. cells_dealt S.mode S.no_map map s };
+    ghost keeps_left = { λ old now memory same left. left };
 
-    ghost keeps_end = { λ old now same. refl };
+    ghost dealt = { λ m c h s memory map waits left. cells_dealt S.mode S.no_map map memory s };
 }
 
 impl<S: CellShape, L: SnapList> CallMachine<S> for VlxRun<L> {
     ghost of_call = { λ m c h s map waits. cells_step S.mode S.no_map map c h s };
 
-    ghost share_left = { λ m. no_share };
+    ghost left_dealt = { AnyLeft };
 
-    ghost dealt = { λ m c h s map waits. cells_dealt S.mode S.no_map map s };
+    ghost keeps_left = { λ old now memory same left. left };
 
-    ghost keeps_end = { λ old now same. refl };
+    ghost dealt = { λ m c h s memory map waits left. cells_dealt S.mode S.no_map map memory s };
 }
 
 impl<S: CellShape> CallMachine<S> for PutRun {
     ghost of_call = { λ m c h s map waits. cells_step S.mode S.no_map map c h s };
 
-    ghost share_left = { λ m. no_share };
+    ghost left_dealt = { AnyLeft };
 
-    ghost dealt = { λ m c h s map waits. cells_dealt S.mode S.no_map map s };
+    ghost keeps_left = { λ old now memory same left. left };
 
-    ghost keeps_end = { λ old now same. refl };
+    ghost dealt = { λ m c h s memory map waits left. cells_dealt S.mode S.no_map map memory s };
 }

@@ -13,6 +13,7 @@ ghost use Rattle.dict.specs.Words.{IsValidPair, IsWordOf};
 ghost use Rattle.ordered_map.specs.Replies.{word_pair};
 ghost use Rattle.forest.specs.Copies.{AreCopied, map_word};
 ghost use Rattle.forest.specs.declared.view.SeatedPass.{SeatedPass};
+ghost use Rattle.forest.specs.Slotted.{names_of_table};
 ghost use Rattle.forest.specs.TableRule.{IsTableOf, history_of};
 ghost use Rattle.forest.specs.Passes.{IsOn, IsOf, PassView, AreAllBack, IsClosed};
 ghost use Rattle.forest.specs.JoinedSeats.{IsFrom, AreIn};
@@ -232,7 +233,7 @@ fn gather<S: Shape>(
     mut passes: Vec<Pass<S>>,
 ) -> Option<Seat<u8, SeatView>>
     requires table { IsTableOf words.now.table.shared.table_id words.now.table.shared.key layout.now }
-    requires passes { All (IsOn words.now.table.shared.table_id layout.now) passes.items }
+    requires passes { All (IsOn words.now.table.shared.table_id (names_of_table words.now.table.shared.key)) passes.items }
     ensures some { 0 < vec_len passes → IsSome result }
     ensures table { IfSome result (λ s. s.table_id ≡ words.now.table.shared.table_id) }
     ensures all { IfSome result (λ s. AreIn S.allows passes.items s.me.0.passes) }
@@ -248,7 +249,7 @@ fn gather<S: Shape>(
 /// The seat of a pass, which has looked at the table once more.
 fn seat_of<S: Shape>(words: &Words<S>, layout: &Layout, pass: Pass<S>) -> Seat<u8, SeatView>
     requires table { IsTableOf words.now.table.shared.table_id words.now.table.shared.key layout.now }
-    requires pass { IsOn words.now.table.shared.table_id layout.now pass }
+    requires pass { IsOn words.now.table.shared.table_id (names_of_table words.now.table.shared.key) pass }
     ensures table { result.table_id ≡ words.now.table.shared.table_id }
     ensures bare { result.me.1 ≡ [] }
     ensures pass { (k : SeatedPass) × (result.me.0.passes ≡ k ∷ []) × IsFrom S.allows pass k }

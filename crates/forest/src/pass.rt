@@ -4,7 +4,7 @@ ghost use Rattle.arena.specs.Share.{whole_share};
 ghost use Rattle.arena.specs.History.{Opened};
 ghost use Rattle.arena.specs.Machines.{IsRun};
 ghost use Rattle.planting.specs.Plantings.{opening_for};
-ghost use Rattle.forest.specs.TableRule.{no_memory, seated_pass};
+ghost use Rattle.forest.specs.TableRule.{all_dealt, seated_pass};
 ghost use Rattle.forest.specs.Traces.{planting_of};
 ghost use Rattle.forest.specs.Passes.{PassView, taken_of};
 
@@ -43,7 +43,8 @@ impl<S: Shape> Pass<S> {
     /// A pass that has made no step, at a seat of its own.
     pub(crate) fn new(layout: &Layout, number: PassNo, seat: Seat<u8, SeatView>) -> Pass<S>
         requires seat { (seat.me.0.passes
-            ≡ seated_pass number.0 layout.now (planting_of seat.me.0.passes) no_memory [] ∷ [])
+            ≡ seated_pass number.0 layout.now (planting_of seat.me.0.passes)
+            (all_dealt layout.now number.0) [] ∷ [])
             × (seat.me.1 ≡ []) }
         requires run { IsRun S.allows layout.now (Opened (opening_for (planting_of seat.me.0.passes))) }
         requires pass { number.0 < layout.now.passes }

@@ -1,6 +1,7 @@
 //! The rule of the table, and what a step shows the seat that makes it.
 ghost use Rattle.std.specs.Prelude.{◌≡◌, []};
-ghost use Rattle.forest.specs.TableRule.{TableIsLawful, Made, Looked, seat_view, new_passes, rest_of_seat, first_of_seat, joined_seat};
+ghost use Rattle.forest.specs.Ruled.{IsRuled, first_of_table};
+ghost use Rattle.forest.specs.TableRule.{Made, Looked, seat_view, rest_of_seat, first_of_seat, joined_seat};
 
 use crate::view::SeatView;
 use arena::{Layout, Shape, Step};
@@ -9,13 +10,13 @@ use planting::Planting;
 use std::marker::{Brand, PhantomData};
 
 /// Some lawful run leads to the words, and each pass knows a beginning of it, after which are rows
-/// of others alone.
+/// of others alone. Of a run whose records come back the words are a window.
 pub struct Lawful<S>(PhantomData<S>);
 
-impl<S: Shape> TableRule<u8, SeatView, Plot> for Lawful<S> {
-    ghost holds = { λ plot. TableIsLawful S.allows plot };
+impl<S: Shape> TableRule<u8, SeatView, Site> for Lawful<S> {
+    ghost holds = { λ site. IsRuled S.allows site };
 
-    ghost first = { λ plot. seat_view (new_passes plot 0 plot.layout.passes) };
+    ghost first = { first_of_table };
 }
 
 /// The layout of a table, and what is planted in it.
@@ -25,6 +26,28 @@ pub struct Plot {
     pub layout: Layout,
     /// What is planted.
     pub planting: Planting,
+}
+
+/// How names share slots in a table whose records come back.
+#[derive(Clone, Copy)]
+pub struct Turns {
+    /// A node has the slot of the node that is 2 to this power before it.
+    pub node_bits: u32,
+    /// And an SCX-record that of the one that is 2 to this power before it.
+    pub scx_bits: u32,
+    /// How many names a slot has, less one.
+    pub laps: u64,
+}
+
+/// What a table is told once, as it is made.
+#[derive(Drop)]
+pub struct Site {
+    /// How its words lie.
+    pub layout: Layout,
+    /// What is planted in it.
+    pub planting: Planting,
+    /// How its slots are taken again, if its records come back.
+    pub turns: Option<Turns>,
 }
 
 /// A step, and the number of the call that makes it.

@@ -1,7 +1,7 @@
 //! The words of the table, and all that touches them while threads share them: a step, which adds
 //! one row to the run, and the moves by which seats are split and joined, which show nothing.
 //! Nothing else can be written outside this module, so that a call's rows are all that it has done.
-ghost use Rattle.std.specs.Prelude.{◌≡◌, ◌<◌, ◌++◌, ℕ, [], ◌∷◌, IfOk};
+ghost use Rattle.std.specs.Prelude.{◌≡◌, ◌<◌, ◌≤◌, ◌++◌, ℕ, [], ◌∷◌, None, IfOk};
 ghost use Rattle.std.specs.Slots.{IsFull, slots_len, slots_items};
 ghost use Rattle.atomic_table.specs.Table.{Final, Seen};
 ghost use Rattle.arena.specs.History.{Opened};
@@ -9,11 +9,13 @@ ghost use Rattle.arena.specs.Layout.{IsMap, table_size};
 ghost use Rattle.arena.specs.Machines.{IsRun};
 ghost use Rattle.planting.specs.Plantings.{opening_for};
 ghost use Rattle.forest.specs.declared.view.SeatedPass.{SeatedPass};
-ghost use Rattle.forest.specs.CallSteps.{IsOfMapCall};
+ghost use Rattle.forest.specs.LastingRule.{MayStepOn};
 ghost use Rattle.forest.specs.Seats.{IsSeatAt, StaysAtTable};
-ghost use Rattle.forest.specs.TableRule.{IsPlaceOf, IsTableOf, TableIsLawful, MayStep, Made, Looked, look, new_passes, rest_of, first_of};
+ghost use Rattle.forest.specs.Ruled.{IsRuled, MayLast};
+ghost use Rattle.forest.specs.Slotted.{plot_at, slots_of_table};
+ghost use Rattle.forest.specs.TableRule.{IsPlaceOf, IsTableOf, MayStep, Made, Looked, look, new_passes, rest_of, first_of};
 
-use crate::rule::{Both, CallStep, Deal, Lawful, Looks, Makes, Plot, Says};
+use crate::rule::{Both, CallStep, Deal, Lawful, Looks, Makes, Says, Site};
 use crate::view::SeatView;
 use arena::{Access, Layout, NoMemory, NodeNo, NodeWord, SettledPart, Shape, Word};
 use atomic_table::{Closed, Seat, Table};
@@ -23,33 +25,34 @@ use std::marker::Brand;
 /// A table of words under the rule that some lawful run has left them.
 #[derive(Drop)]
 pub(crate) struct Words<S: Shape> {
-    table: Table<u8, SeatView, Plot, Lawful<S>, Global>,
+    table: Table<u8, SeatView, Site, Lawful<S>, Global>,
 }
 
 impl<S: Shape> Words<S> {
     /// The words of a table as they are at the start, with a seat that has all passes.
     pub(crate) fn open(
         alloc: Global,
-        plot: &Plot,
+        site: &Site,
     ) -> Result<(Words<S>, Seat<u8, SeatView>), NoMemory>
-        requires mode { plot.now.planting.mode ≡ plot.now.layout.mode }
-        requires run { IsRun S.allows plot.now.layout (Opened (opening_for plot.now.planting)) }
-        ensures key { IfOk result (λ w. w.0.table.shared.key ≡ plot.now) }
+        requires once { site.now.turns ≡ None }
+        requires mode { site.now.planting.mode ≡ site.now.layout.mode }
+        requires run { IsRun S.allows site.now.layout (Opened (opening_for site.now.planting)) }
+        ensures key { IfOk result (λ w. w.0.table.shared.key ≡ site.now) }
         ensures table { IfOk result
-            (λ w. IsTableOf w.0.table.shared.table_id w.0.table.shared.key plot.now.layout
+            (λ w. IsTableOf w.0.table.shared.table_id w.0.table.shared.key site.now.layout
             × (w.0.table.shared.table_id.slots ≡ 0)
             × (w.1.table_id ≡ w.0.table.shared.table_id)) }
         ensures seat { IfOk result
-            (λ w. (w.1.me.0.passes ≡ new_passes plot.now 0 plot.now.layout.passes)
+            (λ w. (w.1.me.0.passes ≡ new_passes (plot_at site.now) 0 site.now.layout.passes)
             × (w.1.me.1 ≡ [])) }
     {
-        let words = plot.planting.words(alloc, &plot.layout)?;
-        let (table, seat) = Table::of_words(alloc, words.words(), plot)?;
+        let words = site.planting.words(alloc, &site.layout)?;
+        let (table, seat) = Table::of_words(alloc, words.words(), site)?;
         Ok((Words { table }, seat))
     }
 
     /// Makes the step of a call that is said, which is at this place, and answers what a machine
-    /// gets of it. The rule of this table does not ask of which call it is.
+    /// gets of it. In a map the step meets what a table asks that lasts.
     #[inline(always)]
     pub(crate) fn make<J: Says>(
         &self,
@@ -59,12 +62,13 @@ impl<S: Shape> Words<S> {
     ) -> u64
         requires said { said.now ≡ J.said }
         requires table { (seat.old.table_id ≡ self.now.table.shared.table_id)
-            × (self.now.table.shared.table_id.words ≡ table_size self.now.table.shared.key.layout) }
-        requires place { IsPlaceOf self.now.table.shared.key.layout said.now.step.word at }
+            × (table_size self.now.table.shared.key.layout ≤ self.now.table.shared.table_id.words) }
+        requires last { MayLast S.mode S.allows self.now.table.shared.key }
+        requires place { IsPlaceOf (slots_of_table self.now.table.shared.key) said.now.step.word at }
         requires may { (p : SeatedPass) × (seat.old.me.0.passes ≡ p ∷ [])
             × MayStep S.allows said.now p }
-        requires of_call { IsMap S.mode → (p : SeatedPass) × (seat.old.me.0.passes ≡ p ∷ [])
-            × IsOfMapCall S.allows said.now p }
+        requires in_map { IsMap S.mode → (p : SeatedPass) × (seat.old.me.0.passes ≡ p ∷ [])
+            × MayStepOn S.allows said.now p }
         ensures table { StaysAtTable seat.old seat.new }
         ensures made { Made S.allows said.now seat.old.me.0.passes result seat.new.me.0.passes }
     {
@@ -142,7 +146,7 @@ impl<S: Shape> Words<S> {
         ensures counts { (slots_len result.words ≡ self.table.shared.table_id.words)
             × (slots_len result.slots ≡ self.table.shared.table_id.slots) }
         ensures values { IsFull result.words × IsFull result.slots
-            × Final (Seen (TableIsLawful S.allows self.table.shared.key) seat.id seat.me.0)
+            × Final (Seen (IsRuled S.allows self.table.shared.key) seat.id seat.me.0)
             (slots_items result.words) (slots_items result.slots) }
     {
         self.table.close_with(seat)

@@ -12,7 +12,7 @@ ghost use Rattle.order.specs.Known.{HasNotBegun};
 ghost use Rattle.order.specs.Range.{range_means, range_try_left};
 ghost use Rattle.order.specs.Steps.{read_left};
 ghost use Rattle.forest.specs.Leads.{steps_made};
-ghost use Rattle.forest.specs.Hands.{IsAt, IsCallOf};
+ghost use Rattle.forest.specs.Hands.{IsAt, IsCallOf, names};
 ghost use Rattle.forest.specs.Seats.{StaysAtTable};
 ghost use Rattle.forest.specs.Traces.{shared_nodes};
 ghost use Rattle.forest.specs.StraightCalls.{CallHasEnded, SeatCallBegins};
@@ -56,7 +56,7 @@ pub(crate) fn make<K: WordKey, V: WordValue, B: FixedBalance, G: EditGoal, R: Ed
         → CallHasEnded K.is_valid K.word_of V.is_valid V.word_of (B.trie B.the) c seat.new.me.0.passes
         (edit_call G.goal R.rule edit) share tries hand.entry.number result.1 result.0 }
     ensures steps { steps_made seat.new ≤ steps_made seat.old + most_steps (edit_call G.goal R.rule edit) tries
-        (nodes_by (B.trie B.the) (shared_nodes hand.entry.layout.now)) }
+        (nodes_by (B.trie B.the) (shared_nodes (names hand.entry))) }
 {
     let goal = edit.goal.goal();
     let (updated, share) = update::make::<Dict<K, V, B>, DictRun<K, V>, KeyEdit<G, R>>(
@@ -110,7 +110,7 @@ fn neighbour<K: WordKey, V: WordValue, B: FixedBalance>(
         (NeighbourOf side (K.word_of key)) share tries hand.entry.number share result }
     ensures steps { steps_made seat.new
         ≤ steps_made seat.old + most_steps (NeighbourOf side (K.word_of key)) tries
-        (nodes_by (B.trie B.the) (shared_nodes hand.entry.layout.now)) }
+        (nodes_by (B.trie B.the) (shared_nodes (names hand.entry))) }
 {
     key.valid();
     let mut run = Neighbour::run(alloc, key.word(), side, tries, in_trie::<B>());
@@ -145,7 +145,7 @@ pub(crate) fn read<K: WordKey, V: WordValue, B: FixedBalance>(
         (as_map_call K.word_of V.word_of request) share tries hand.entry.number share result }
     ensures steps { steps_made seat.new
         ≤ steps_made seat.old + most_steps (as_map_call K.word_of V.word_of request) tries
-        (nodes_by (B.trie B.the) (shared_nodes hand.entry.layout.now)) }
+        (nodes_by (B.trie B.the) (shared_nodes (names hand.entry))) }
     ensures nothing { ¬ AsksForPairs (as_map_call K.word_of V.word_of request) → seat.new ≡ seat.old }
 {
     match request {

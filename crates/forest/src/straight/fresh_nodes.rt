@@ -2,7 +2,7 @@
 ghost use Rattle.std.specs.Prelude.{◌≡◌, ◌<◌, true, false, Ok, None, Some, IfSome};
 ghost use Rattle.arena.specs.declared.word.NodeWord.{NodeWord};
 ghost use Rattle.arena.specs.declared.word.SettledPart.{SettledPart};
-ghost use Rattle.forest.specs.Hands.{IsAt};
+ghost use Rattle.forest.specs.Hands.{IsAt, hand_slots};
 ghost use Rattle.forest.specs.Leads.{steps_made};
 ghost use Rattle.forest.specs.StraightUpdate.{FillGoesOn, IsFreshPiece, StandsToFill, StandsToTry, TryGoesOn};
 ghost use Rattle.edits.specs.Pieces.{is_filled, is_leaf_piece, part_behind, word_of};
@@ -49,13 +49,13 @@ fn put<S: Shape, M: CallMachine<S>, E: Edit + Copy>(
     value: u64,
 )
     requires table { IsAt hand seat.old }
-    requires fresh { IsFreshPiece hand.layout.now E.means run.now node.found.now
+    requires fresh { IsFreshPiece (hand_slots hand) E.means run.now node.found.now
         node.nth node.start node.piece.now }
     requires value { value ≡ word_of node.piece.now part }
-    requires fills { StandsToFill S.Shape M.Machine E.means hand node.found.now
+    requires fills { StandsToFill S.Shape M.Machine M.left_dealt E.means hand node.found.now
         seat.old run.now node.nth (Some part) }
-    ensures goes_on { FillGoesOn S.Shape M.Machine E.means hand.entry node.entry.found.now
-        run.now node.entry.nth node.entry.piece.now seat.old (Some part)
+    ensures goes_on { FillGoesOn S.Shape M.Machine M.left_dealt E.means hand.entry
+        node.entry.found.now run.now node.entry.nth node.entry.piece.now seat.old (Some part)
         seat.new (part_behind node.entry.piece.now part) }
     ensures moves { steps_made seat.old < steps_made seat.new }
 {
@@ -74,12 +74,12 @@ fn fill_word<S: Shape, M: CallMachine<S>, E: Edit + Copy>(
     part: NodeWord,
 )
     requires table { IsAt hand seat.old }
-    requires fresh { IsFreshPiece hand.layout.now E.means run.now node.found.now
+    requires fresh { IsFreshPiece (hand_slots hand) E.means run.now node.found.now
         node.nth node.start node.piece.now }
-    requires fills { StandsToFill S.Shape M.Machine E.means hand node.found.now
+    requires fills { StandsToFill S.Shape M.Machine M.left_dealt E.means hand node.found.now
         seat.old run.now node.nth (Some part) }
-    ensures goes_on { FillGoesOn S.Shape M.Machine E.means hand.entry node.entry.found.now
-        run.now node.entry.nth node.entry.piece.now seat.old (Some part)
+    ensures goes_on { FillGoesOn S.Shape M.Machine M.left_dealt E.means hand.entry
+        node.entry.found.now run.now node.entry.nth node.entry.piece.now seat.old (Some part)
         seat.new (part_behind node.entry.piece.now part) }
     ensures moves { steps_made seat.old < steps_made seat.new }
 {
@@ -98,11 +98,12 @@ fn fill<S: Shape, M: CallMachine<S>, E: Edit + Copy>(
     part: NodeWord,
 ) -> Option<NodeWord>
     requires table { IsAt hand seat.old }
-    requires fresh { IsFreshPiece hand.layout.now E.means run.now node.found.now
+    requires fresh { IsFreshPiece (hand_slots hand) E.means run.now node.found.now
         node.nth node.start node.piece.now }
-    requires fills { StandsToFill S.Shape M.Machine E.means hand node.found.now
+    requires fills { StandsToFill S.Shape M.Machine M.left_dealt E.means hand node.found.now
         seat.old run.now node.nth (Some part) }
-    ensures goes_on { FillGoesOn S.Shape M.Machine E.means hand.entry node.entry.found.now
+    ensures goes_on { FillGoesOn S.Shape M.Machine M.left_dealt E.means hand.entry
+        node.entry.found.now
         run.now node.entry.nth node.entry.piece.now seat.old (Some part) seat.new result }
     ensures moves { steps_made seat.old < steps_made seat.new }
     ensures filled { IfSome result (λ part. is_filled node.entry.piece.now part ≡ true) }
@@ -123,12 +124,13 @@ fn fill_high<S: Shape, M: CallMachine<S>, E: Edit + Copy>(
     high: u64,
 )
     requires table { IsAt hand seat.old }
-    requires fresh { IsFreshPiece hand.layout.now E.means run.now node.found.now
+    requires fresh { IsFreshPiece (hand_slots hand) E.means run.now node.found.now
         node.nth node.start node.piece.now }
     requires value { high ≡ word_of node.piece.now (NodeWord.Settled (SettledPart.High slot)) }
-    requires fills { StandsToFill S.Shape M.Machine E.means hand node.found.now seat.old run.now
+    requires fills { StandsToFill S.Shape M.Machine M.left_dealt E.means hand node.found.now
+        seat.old run.now
         node.nth (part_behind node.piece.now (NodeWord.Settled (SettledPart.Value slot))) }
-    ensures { FillGoesOn S.Shape M.Machine E.means hand.entry node.entry.found.now
+    ensures { FillGoesOn S.Shape M.Machine M.left_dealt E.means hand.entry node.entry.found.now
         run.now node.entry.nth node.entry.piece.now
         seat.old (part_behind node.entry.piece.now (NodeWord.Settled (SettledPart.Value slot)))
         seat.new (part_behind node.entry.piece.now (NodeWord.Settled (SettledPart.High slot))) }
@@ -151,13 +153,14 @@ fn fill_pair<S: Shape, M: CallMachine<S>, E: Edit + Copy>(
     slot: Slot,
 ) -> Option<NodeWord>
     requires table { IsAt hand seat.old }
-    requires fresh { IsFreshPiece hand.layout.now E.means run.now node.found.now
+    requires fresh { IsFreshPiece (hand_slots hand) E.means run.now node.found.now
         node.nth node.start node.piece.now }
-    requires fills { StandsToFill S.Shape M.Machine E.means hand node.found.now
+    requires fills { StandsToFill S.Shape M.Machine M.left_dealt E.means hand node.found.now
         seat.old run.now node.nth (Some (NodeWord.Settled (SettledPart.Key slot))) }
     requires leaf { is_leaf_piece node.piece.now ≡ true }
     requires there { is_filled node.piece.now (NodeWord.Settled (SettledPart.Key slot)) ≡ true }
-    ensures goes_on { FillGoesOn S.Shape M.Machine E.means hand.entry node.entry.found.now
+    ensures goes_on { FillGoesOn S.Shape M.Machine M.left_dealt E.means hand.entry
+        node.entry.found.now
         run.now node.entry.nth node.entry.piece.now seat.old (Some (NodeWord.Settled (SettledPart.Key slot)))
         seat.new result }
     ensures filled { IfSome result (λ part. is_filled node.entry.piece.now part ≡ true) }
@@ -181,12 +184,13 @@ fn fill_more<S: Shape, M: CallMachine<S>, E: Edit + Copy>(
     next: Option<NodeWord>,
 ) -> Option<NodeWord>
     requires table { IsAt hand seat.old }
-    requires fresh { IsFreshPiece hand.layout.now E.means run.now node.found.now
+    requires fresh { IsFreshPiece (hand_slots hand) E.means run.now node.found.now
         node.nth node.start node.piece.now }
-    requires fills { StandsToFill S.Shape M.Machine E.means hand node.found.now
+    requires fills { StandsToFill S.Shape M.Machine M.left_dealt E.means hand node.found.now
         seat.old run.now node.nth next }
     requires there { IfSome next (λ part. is_filled node.piece.now part ≡ true) }
-    ensures goes_on { FillGoesOn S.Shape M.Machine E.means hand.entry node.entry.found.now
+    ensures goes_on { FillGoesOn S.Shape M.Machine M.left_dealt E.means hand.entry
+        node.entry.found.now
         run.now node.entry.nth node.entry.piece.now seat.old next seat.new result }
     ensures filled { IfSome result (λ part. is_filled node.entry.piece.now part ≡ true) }
 {
@@ -222,12 +226,12 @@ fn fill_last_pairs<S: Shape, M: CallMachine<S>, E: Edit + Copy>(
     next: Option<NodeWord>,
 ) -> Option<NodeWord>
     requires table { IsAt hand seat.old }
-    requires fresh { IsFreshPiece hand.layout.now E.means run.now node.found.now
+    requires fresh { IsFreshPiece (hand_slots hand) E.means run.now node.found.now
         node.nth node.start node.piece.now }
-    requires fills { StandsToFill S.Shape M.Machine E.means hand node.found.now
+    requires fills { StandsToFill S.Shape M.Machine M.left_dealt E.means hand node.found.now
         seat.old run.now node.nth next }
     requires there { IfSome next (λ part. is_filled node.piece.now part ≡ true) }
-    ensures { FillGoesOn S.Shape M.Machine E.means hand.entry node.entry.found.now
+    ensures { FillGoesOn S.Shape M.Machine M.left_dealt E.means hand.entry node.entry.found.now
         run.now node.entry.nth node.entry.piece.now seat.old next seat.new result }
 {
     if !is_pair_next(node.piece, next, Slot::Third) {
@@ -251,12 +255,12 @@ fn fill_pairs<S: Shape, M: CallMachine<S>, E: Edit + Copy>(
     next: Option<NodeWord>,
 ) -> Option<NodeWord>
     requires table { IsAt hand seat.old }
-    requires fresh { IsFreshPiece hand.layout.now E.means run.now node.found.now
+    requires fresh { IsFreshPiece (hand_slots hand) E.means run.now node.found.now
         node.nth node.start node.piece.now }
-    requires fills { StandsToFill S.Shape M.Machine E.means hand node.found.now
+    requires fills { StandsToFill S.Shape M.Machine M.left_dealt E.means hand node.found.now
         seat.old run.now node.nth next }
     requires there { IfSome next (λ part. is_filled node.piece.now part ≡ true) }
-    ensures { FillGoesOn S.Shape M.Machine E.means hand.entry node.entry.found.now
+    ensures { FillGoesOn S.Shape M.Machine M.left_dealt E.means hand.entry node.entry.found.now
         run.now node.entry.nth node.entry.piece.now seat.old next seat.new result }
 {
     if !is_pair_next(node.piece, next, Slot::First) {
@@ -279,12 +283,12 @@ fn fill_leaf<S: Shape, M: CallMachine<S>, E: Edit + Copy>(
     node: FreshNode<'_>,
 )
     requires table { IsAt hand seat.old }
-    requires fresh { IsFreshPiece hand.layout.now E.means run.now node.found.now
+    requires fresh { IsFreshPiece (hand_slots hand) E.means run.now node.found.now
         node.nth node.start node.piece.now }
-    requires fills { StandsToFill S.Shape M.Machine E.means hand node.found.now
+    requires fills { StandsToFill S.Shape M.Machine M.left_dealt E.means hand node.found.now
         seat.old run.now node.nth (Some (NodeWord.Settled SettledPart.Head)) }
-    ensures goes_on { FillGoesOn S.Shape M.Machine E.means hand.entry node.entry.found.now
-        run.now node.entry.nth node.entry.piece.now
+    ensures goes_on { FillGoesOn S.Shape M.Machine M.left_dealt E.means hand.entry
+        node.entry.found.now run.now node.entry.nth node.entry.piece.now
         seat.old (Some (NodeWord.Settled SettledPart.Head)) seat.new None }
     ensures moves { steps_made seat.old < steps_made seat.new }
 {
@@ -306,13 +310,13 @@ fn fill_fork<S: Shape, M: CallMachine<S>, E: Edit + Copy>(
     node: FreshNode<'_>,
 )
     requires table { IsAt hand seat.old }
-    requires fresh { IsFreshPiece hand.layout.now E.means run.now node.found.now
+    requires fresh { IsFreshPiece (hand_slots hand) E.means run.now node.found.now
         node.nth node.start node.piece.now }
-    requires fills { StandsToFill S.Shape M.Machine E.means hand node.found.now
+    requires fills { StandsToFill S.Shape M.Machine M.left_dealt E.means hand node.found.now
         seat.old run.now node.nth (Some (NodeWord.Settled SettledPart.Head)) }
     requires fork { is_leaf_piece node.piece.now ≡ false }
-    ensures goes_on { FillGoesOn S.Shape M.Machine E.means hand.entry node.entry.found.now
-        run.now node.entry.nth node.entry.piece.now
+    ensures goes_on { FillGoesOn S.Shape M.Machine M.left_dealt E.means hand.entry
+        node.entry.found.now run.now node.entry.nth node.entry.piece.now
         seat.old (Some (NodeWord.Settled SettledPart.Head)) seat.new None }
     ensures moves { steps_made seat.old < steps_made seat.new }
 {
@@ -332,12 +336,12 @@ fn fill_words<S: Shape, M: CallMachine<S>, E: Edit + Copy>(
     node: FreshNode<'_>,
 )
     requires table { IsAt hand seat.old }
-    requires fresh { IsFreshPiece hand.layout.now E.means run.now node.found.now
+    requires fresh { IsFreshPiece (hand_slots hand) E.means run.now node.found.now
         node.nth node.start node.piece.now }
-    requires fills { StandsToFill S.Shape M.Machine E.means hand node.found.now
+    requires fills { StandsToFill S.Shape M.Machine M.left_dealt E.means hand node.found.now
         seat.old run.now node.nth (Some (NodeWord.Settled SettledPart.Head)) }
-    ensures goes_on { FillGoesOn S.Shape M.Machine E.means hand.entry node.entry.found.now
-        run.now node.entry.nth node.entry.piece.now
+    ensures goes_on { FillGoesOn S.Shape M.Machine M.left_dealt E.means hand.entry
+        node.entry.found.now run.now node.entry.nth node.entry.piece.now
         seat.old (Some (NodeWord.Settled SettledPart.Head)) seat.new None }
     ensures moves { steps_made seat.old < steps_made seat.new }
 {
@@ -358,9 +362,9 @@ pub(crate) fn fill_node<S: Shape, M: CallMachine<S>, E: Edit + Copy>(
     nth: Nth,
 ) -> Result<Next, Stop>
     requires table { IsAt hand seat.old }
-    requires tries { StandsToTry S.Shape M.Machine E.means hand found.now
+    requires tries { StandsToTry S.Shape M.Machine M.left_dealt E.means hand found.now
         seat.old run.old (Ok (Next.Fill nth)) }
-    ensures goes_on { TryGoesOn S.Shape M.Machine E.means hand.entry found.now
+    ensures goes_on { TryGoesOn S.Shape M.Machine M.left_dealt E.means hand.entry found.now
         seat.old run.old (Ok (Next.Fill nth)) seat.new run.new result }
     ensures moves { steps_made seat.old < steps_made seat.new }
 {

@@ -1,7 +1,7 @@
 //! The places from which updates walk: the root; or, of an edit with a guard, the child of the root,
 //! once it has looked at that.
 ghost use Rattle.std.specs.Prelude.{◌≡◌, true, IfErr, IfOk};
-ghost use Rattle.forest.specs.Hands.{IsAt, hand_calls};
+ghost use Rattle.forest.specs.Hands.{IsAt, hand_calls, names};
 ghost use Rattle.forest.specs.Leads.{Leads};
 ghost use Rattle.forest.specs.Traces.{shared_nodes};
 ghost use Rattle.forest.specs.StraightGuard.{BeginsToWalk, at_guard_again};
@@ -58,13 +58,15 @@ fn pass<S: Shape, M: CallMachine<S>, E: Edit + Copy>(
     requires table { IsAt hand seat.old }
     requires guard { E.means.guard run.old.edit ≡ true }
     requires goes { (way ≡ E.means.way run.old.edit) × (goal ≡ E.means.goal run.old.edit) }
-    requires begins { (u : Updater (hand_calls S.Shape M.Machine hand) E.means)
+    requires begins { (u : Updater (hand_calls S.Shape M.Machine M.left_dealt hand) E.means)
         × UpdaterBegins u seat.old.me.0.passes run.old }
     ensures walks { IfOk result (λ place.
-        BeginsToWalk S.Shape M.Machine E.means hand.entry way goal seat.old run.old seat.new run.new place) }
+        BeginsToWalk S.Shape M.Machine M.left_dealt E.means hand.entry way goal seat.old run.old
+        seat.new run.new place) }
     ensures ends { IfErr result (λ updated. Leads seat.old seat.new
-        (update_left E.means (standing run.old Places.Start) (shared_nodes hand.entry.layout.now))
-        (λ (u : Updater (hand_calls S.Shape M.Machine hand.entry) E.means) ps. UpdaterBegins u ps run.old)
+        (update_left E.means (standing run.old Places.Start) (shared_nodes (names hand.entry)))
+        (λ (u : Updater (hand_calls S.Shape M.Machine M.left_dealt hand.entry) E.means) ps.
+        UpdaterBegins u ps run.old)
         (λ u ps. UpdaterEnds u ps run.new updated)) }
 {
     let part = NodeWord::Settled(SettledPart::Head);
@@ -95,13 +97,15 @@ pub(crate) fn begin<S: Shape, M: CallMachine<S>, E: Edit + Copy>(
 ) -> Result<Reached, Updated>
     requires table { IsAt hand seat.old }
     requires goes { (way ≡ E.means.way run.old.edit) × (goal ≡ E.means.goal run.old.edit) }
-    requires begins { (u : Updater (hand_calls S.Shape M.Machine hand) E.means)
+    requires begins { (u : Updater (hand_calls S.Shape M.Machine M.left_dealt hand) E.means)
         × UpdaterBegins u seat.old.me.0.passes run.old }
     ensures walks { IfOk result (λ place.
-        BeginsToWalk S.Shape M.Machine E.means hand.entry way goal seat.old run.old seat.new run.new place) }
+        BeginsToWalk S.Shape M.Machine M.left_dealt E.means hand.entry way goal seat.old run.old
+        seat.new run.new place) }
     ensures ends { IfErr result (λ updated. Leads seat.old seat.new
-        (update_left E.means (standing run.old Places.Start) (shared_nodes hand.entry.layout.now))
-        (λ (u : Updater (hand_calls S.Shape M.Machine hand.entry) E.means) ps. UpdaterBegins u ps run.old)
+        (update_left E.means (standing run.old Places.Start) (shared_nodes (names hand.entry)))
+        (λ (u : Updater (hand_calls S.Shape M.Machine M.left_dealt hand.entry) E.means) ps.
+        UpdaterBegins u ps run.old)
         (λ u ps. UpdaterEnds u ps run.new updated)) }
 {
     if run.edit.guard() {

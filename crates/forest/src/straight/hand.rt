@@ -1,10 +1,10 @@
 //! What the steps of a call have in hand.
 ghost use Rattle.std.specs.Prelude.{◌≡◌, ◌<◌, ⊤};
-ghost use Rattle.arena.specs.Layout.{all_nodes, node_size, node_start, start_of, IsWord};
-ghost use Rattle.forest.specs.TableRule.{IsTableOf};
+ghost use Rattle.arena.specs.Layout.{all_nodes, all_scx, node_size, IsWord};
+ghost use Rattle.forest.specs.TableRule.{IsPlaceOf, IsTableOf};
 
 use crate::words::Words;
-use arena::{Layout, NodeNo, Shape, Word};
+use arena::{Layout, NodeNo, ScxNo, Shape, Word};
 use std::alloc::AllocError;
 
 /// Words with their layout, and the number of the call that makes steps on them. Loops copy the
@@ -32,22 +32,47 @@ impl<'a, S: Shape> Clone for Hand<'a, S> {
 impl<'a, S: Shape> Copy for Hand<'a, S> {}
 
 impl<'a, S: Shape> Hand<'a, S> {
+    ghost use Rattle.forest.specs.Hands.{hand_slots, names};
+    ghost use Rattle.forest.specs.Slotted.{node_begins, scx_begins, word_begins};
+
     /// Where the words of a node begin.
     #[inline(always)]
     pub(crate) fn node_start(self, node: NodeNo) -> usize
-        requires { node.0 < all_nodes self.layout.now }
-        ensures start { result ≡ node_start self.entry.layout.now node }
+        requires { node.0 < all_nodes (names self) }
+        ensures start { result ≡ node_begins (hand_slots self.entry) node }
         ensures fits { result < 4294967296 }
     {
         self.layout.node_start(self.size, node)
     }
 
+    /// Where the words of an SCX-record begin.
+    #[inline(always)]
+    pub(crate) fn scx_start(self, scx: ScxNo) -> usize
+        requires { scx.0 < all_scx (names self) }
+        ensures { result ≡ scx_begins (hand_slots self.entry) scx }
+    {
+        self.layout.scx_start(scx)
+    }
+
     /// Where the words of the node or of the SCX-record begin that has this word.
     #[inline(always)]
     pub(crate) fn start_of(self, word: Word) -> usize
-        requires { IsWord self.layout.now word }
-        ensures { result ≡ start_of self.entry.layout.now word }
+        requires { IsWord (names self) word }
+        ensures { result ≡ word_begins (hand_slots self.entry) word }
     {
-        self.layout.start_of(self.size, word)
+        match word {
+            Word::Node(node, _) => self.node_start(node),
+            Word::Scx(scx, _) => self.scx_start(scx),
+        }
+    }
+
+    /// The place of a word, whose node or SCX-record begins there.
+    #[inline(always)]
+    pub(crate) fn place_from(self, start: usize, word: Word) -> usize
+        requires word { IsWord (names self) word }
+        requires start { start ≡ word_begins (hand_slots self) word }
+        ensures { IsPlaceOf (hand_slots self.entry) word result }
+    {
+        self.layout.place_from(start, word)
     }
 }

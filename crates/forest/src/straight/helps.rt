@@ -1,14 +1,14 @@
 //! HELP, of whatever machine helps: its steps inline.
 ghost use Rattle.std.specs.Prelude.{◌≡◌, ◌≢◌, ◌+◌, ◌≤◌, ◌⊎◌, ℕ, suc, true, false};
-ghost use Rattle.arena.specs.Layout.{scx_start, start_of};
 ghost use Rattle.arena.specs.MemberIndex.{member_index};
 ghost use Rattle.help.specs.Help.Steps.{help_left};
 ghost use Rattle.help.specs.Help.Known.{settled_load};
-ghost use Rattle.forest.specs.Hands.{IsAt, hand_calls};
+ghost use Rattle.forest.specs.Hands.{IsAt, hand_calls, hand_slots};
 ghost use Rattle.forest.specs.InnerSteps.{MakesInside, WaitsInside};
 ghost use Rattle.forest.specs.Leads.{Leads, steps_made};
 ghost use Rattle.forest.specs.StraightHelp.{Helper, HelperMarks, IsBehindFreeze, IsBehindFreezes, IsBehindHelp, LoadsMember, LoadsPlan, SetsFlag, inner_help};
 ghost use Rattle.forest.specs.Inside.{InnerIsTold, InnerWaits};
+ghost use Rattle.forest.specs.Slotted.{scx_begins, word_begins};
 
 use crate::call_machine::CallMachine;
 use crate::straight::hand::Hand;
@@ -31,10 +31,11 @@ fn act_on<S: Shape, M: CallMachine<S>, T: Shape>(
     access: Access,
 ) -> u64
     requires table { IsAt hand seat.old }
-    requires start { start ≡ start_of hand.layout.now word }
-    requires waits { WaitsInside (hand_calls S.Shape M.Machine hand) (inner_help T.allows)
-        seat.old record { kind = kind; word = word; access = access } }
-    ensures { MakesInside (hand_calls S.Shape M.Machine hand.entry) (inner_help T.allows)
+    requires start { start ≡ word_begins (hand_slots hand) word }
+    requires waits { WaitsInside (hand_calls S.Shape M.Machine M.left_dealt hand)
+        (inner_help T.allows) seat.old record { kind = kind; word = word; access = access } }
+    ensures { MakesInside (hand_calls S.Shape M.Machine M.left_dealt hand.entry)
+        (inner_help T.allows)
         seat.old seat.new record { kind = kind; word = word; access = access } result }
 {
     step_from::<S, M>(hand, seat, Step { kind, word, access }, start)
@@ -51,9 +52,11 @@ fn act<S: Shape, M: CallMachine<S>, T: Shape>(
     access: Access,
 ) -> u64
     requires table { IsAt hand seat.old }
-    requires waits { WaitsInside (hand_calls S.Shape M.Machine hand) (inner_help T.allows)
+    requires waits { WaitsInside (hand_calls S.Shape M.Machine M.left_dealt hand)
+        (inner_help T.allows)
         seat.old record { kind = kind; word = Word.Node node part; access = access } }
-    ensures { MakesInside (hand_calls S.Shape M.Machine hand.entry) (inner_help T.allows)
+    ensures { MakesInside (hand_calls S.Shape M.Machine M.left_dealt hand.entry)
+        (inner_help T.allows)
         seat.old seat.new record { kind = kind; word = Word.Node node part; access = access } result }
 {
     let start = hand.node_start(node);
@@ -71,11 +74,11 @@ fn read<S: Shape, M: CallMachine<S>, T: Shape>(
     part: ScxWord,
 ) -> u64
     requires table { IsAt hand seat.old }
-    requires start { start ≡ scx_start hand.layout.now scx }
-    requires waits { WaitsInside (hand_calls S.Shape M.Machine hand) (inner_help T.allows)
-        seat.old (settled_load scx.0 part) }
-    ensures { MakesInside (hand_calls S.Shape M.Machine hand.entry) (inner_help T.allows)
-        seat.old seat.new (settled_load scx.0 part) result }
+    requires start { start ≡ scx_begins (hand_slots hand) scx }
+    requires waits { WaitsInside (hand_calls S.Shape M.Machine M.left_dealt hand)
+        (inner_help T.allows) seat.old (settled_load scx.0 part) }
+    ensures { MakesInside (hand_calls S.Shape M.Machine M.left_dealt hand.entry)
+        (inner_help T.allows) seat.old seat.new (settled_load scx.0 part) result }
 {
     let (kind, word) = (Kind::LoadSettled, Word::Scx(scx, part));
     let access = Access::Load;
@@ -102,11 +105,11 @@ fn freeze<S: Shape, M: CallMachine<S>, T: Shape>(
     j: MemberIndex,
 ) -> bool
     requires table { IsAt hand seat.old }
-    requires start { start ≡ scx_start hand.layout.now run.old.scx }
-    requires waits { (k : Helper T.allows (hand_calls S.Shape M.Machine hand))
+    requires start { start ≡ scx_begins (hand_slots hand) run.old.scx }
+    requires waits { (k : Helper T.allows (hand_calls S.Shape M.Machine M.left_dealt hand))
         × LoadsMember k seat.old.me.0.passes run.old j }
     ensures leads { Leads seat.old seat.new 3
-        (λ (k : Helper T.allows (hand_calls S.Shape M.Machine hand.entry)) ps.
+        (λ (k : Helper T.allows (hand_calls S.Shape M.Machine M.left_dealt hand.entry)) ps.
         LoadsMember k ps run.old j)
         (λ k ps. IsBehindFreeze k ps run.new run.old.plan.0 j result) }
     ensures left { result ≡ false → help_left run.new.at ≤ 1 }
@@ -140,11 +143,11 @@ fn freeze_all<S: Shape, M: CallMachine<S>, T: Shape>(
     run: &mut HelpRun,
 ) -> bool
     requires table { IsAt hand seat.old }
-    requires start { start ≡ scx_start hand.layout.now run.old.scx }
-    requires waits { (k : Helper T.allows (hand_calls S.Shape M.Machine hand))
+    requires start { start ≡ scx_begins (hand_slots hand) run.old.scx }
+    requires waits { (k : Helper T.allows (hand_calls S.Shape M.Machine M.left_dealt hand))
         × LoadsMember k seat.old.me.0.passes run.old MemberIndex.First }
     ensures leads { Leads seat.old seat.new 12
-        (λ (k : Helper T.allows (hand_calls S.Shape M.Machine hand.entry)) ps.
+        (λ (k : Helper T.allows (hand_calls S.Shape M.Machine M.left_dealt hand.entry)) ps.
         LoadsMember k ps run.old MemberIndex.First)
         (λ k ps. IsBehindFreezes k ps run.new result) }
     ensures left { result ≡ false → help_left run.new.at ≤ 1 }
@@ -182,10 +185,10 @@ fn mark<S: Shape, M: CallMachine<S>, T: Shape>(
     j: MemberIndex,
 )
     requires table { IsAt hand seat.old }
-    requires marks { (k : Helper T.allows (hand_calls S.Shape M.Machine hand))
+    requires marks { (k : Helper T.allows (hand_calls S.Shape M.Machine M.left_dealt hand))
         × HelperMarks k seat.old.me.0.passes run.now (member_index j) }
     ensures { Leads seat.old seat.new 1
-        (λ (k : Helper T.allows (hand_calls S.Shape M.Machine hand.entry)) ps.
+        (λ (k : Helper T.allows (hand_calls S.Shape M.Machine M.left_dealt hand.entry)) ps.
         HelperMarks k ps run.now (member_index j))
         (λ k ps. HelperMarks k ps run.now (member_index j + 1)) }
 {
@@ -204,10 +207,10 @@ fn mark_all<S: Shape, M: CallMachine<S>, T: Shape>(
     run: &HelpRun,
 )
     requires table { IsAt hand seat.old }
-    requires marks { (k : Helper T.allows (hand_calls S.Shape M.Machine hand))
+    requires marks { (k : Helper T.allows (hand_calls S.Shape M.Machine M.left_dealt hand))
         × HelperMarks k seat.old.me.0.passes run.now 0 }
     ensures { Leads seat.old seat.new 4
-        (λ (k : Helper T.allows (hand_calls S.Shape M.Machine hand.entry)) ps.
+        (λ (k : Helper T.allows (hand_calls S.Shape M.Machine M.left_dealt hand.entry)) ps.
         HelperMarks k ps run.now 0)
         (λ k ps. InnerWaits k ps (record run.now { at = HelpAt.New })
         (settled_load run.now.scx.0 ScxWord.New)) }
@@ -229,11 +232,12 @@ pub(crate) fn begin<S: Shape, M: CallMachine<S>, T: Shape, E>(
     run: &mut HelpRun,
 ) -> bool
     requires table { IsAt hand seat.old }
-    requires start { start ≡ scx_start hand.layout.now run.old.scx }
-    requires waits { (k : Helper T.allows (hand_calls S.Shape M.Machine hand))
+    requires start { start ≡ scx_begins (hand_slots hand) run.old.scx }
+    requires waits { (k : Helper T.allows (hand_calls S.Shape M.Machine M.left_dealt hand))
         × LoadsPlan k seat.old.me.0.passes run.old }
     ensures leads { Leads seat.old seat.new 13
-        (λ (k : Helper T.allows (hand_calls S.Shape M.Machine hand.entry)) ps. LoadsPlan k ps run.old)
+        (λ (k : Helper T.allows (hand_calls S.Shape M.Machine M.left_dealt hand.entry)) ps.
+        LoadsPlan k ps run.old)
         (λ k ps. IsBehindFreezes k ps run.new result) }
     ensures same { run.new.scx ≡ run.old.scx }
     ensures left { result ≡ false → help_left run.new.at ≤ 1 }
@@ -253,11 +257,12 @@ pub(crate) fn commit<S: Shape, M: CallMachine<S>, T: Shape>(
     run: &HelpRun,
 )
     requires table { IsAt hand seat.old }
-    requires start { start ≡ scx_start hand.layout.now run.now.scx }
-    requires waits { (k : Helper T.allows (hand_calls S.Shape M.Machine hand))
+    requires start { start ≡ scx_begins (hand_slots hand) run.now.scx }
+    requires waits { (k : Helper T.allows (hand_calls S.Shape M.Machine M.left_dealt hand))
         × SetsFlag k seat.old.me.0.passes run.now }
     ensures { Leads seat.old seat.new 9
-        (λ (k : Helper T.allows (hand_calls S.Shape M.Machine hand.entry)) ps. SetsFlag k ps run.now)
+        (λ (k : Helper T.allows (hand_calls S.Shape M.Machine M.left_dealt hand.entry)) ps.
+        SetsFlag k ps run.now)
         (λ k ps. (v : ℕ) × InnerIsTold k ps (record run.now { at = HelpAt.Commit }) v) }
 {
     let (scx, plan) = (run.scx, run.plan);
@@ -286,11 +291,12 @@ pub(crate) fn call<S: Shape, M: CallMachine<S>, T: Shape>(
     run: &mut HelpRun,
 ) -> bool
     requires table { IsAt hand seat.old }
-    requires start { start ≡ scx_start hand.layout.now run.old.scx }
-    requires waits { (k : Helper T.allows (hand_calls S.Shape M.Machine hand))
+    requires start { start ≡ scx_begins (hand_slots hand) run.old.scx }
+    requires waits { (k : Helper T.allows (hand_calls S.Shape M.Machine M.left_dealt hand))
         × LoadsPlan k seat.old.me.0.passes run.old }
     ensures leads { Leads seat.old seat.new 22
-        (λ (k : Helper T.allows (hand_calls S.Shape M.Machine hand.entry)) ps. LoadsPlan k ps run.old)
+        (λ (k : Helper T.allows (hand_calls S.Shape M.Machine M.left_dealt hand.entry)) ps.
+        LoadsPlan k ps run.old)
         (λ k ps. IsBehindHelp k ps run.new result) }
     ensures same { run.new.scx ≡ run.old.scx }
     ensures left { result ≡ false → steps_made seat.new + suc (help_left run.new.at)

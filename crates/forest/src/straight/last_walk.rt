@@ -1,12 +1,12 @@
 //! The walk to the last pair, of whatever machine walks: it goes right wherever it may.
 ghost use Rattle.std.specs.Prelude.{◌≡◌, ◌≤◌, ◌+◌, suc, true, false, IfOk, IfErr, MatchResult};
 ghost use Rattle.arena.specs.Heads.{head_of};
-ghost use Rattle.arena.specs.Layout.{node_start};
 ghost use Rattle.forest.specs.Leads.{steps_made};
-ghost use Rattle.forest.specs.Hands.{IsAt, hand_calls};
+ghost use Rattle.forest.specs.Hands.{IsAt, hand_calls, hand_slots, names};
 ghost use Rattle.forest.specs.Seats.{StaysAtTable};
 ghost use Rattle.forest.specs.Traces.{shared_nodes};
 ghost use Rattle.forest.specs.StraightWalk.{AsksHead, HasWalked, MayWalkFrom, WalkEndsFrom, WalkFinds, WalkGoesDown, Walker, WalkerIsTold, WalksNearer};
+ghost use Rattle.forest.specs.Slotted.{node_begins};
 ghost use Rattle.ordered_map.specs.Holding.{end_slot};
 ghost use Rattle.ordered_map.specs.declared.rule.Goal.{Goal};
 ghost use Rattle.order.specs.declared.last_turns.LastTurns.{LastTurns};
@@ -38,13 +38,13 @@ fn end_at<S: Shape, M: CallMachine<S>>(
     slot: Slot,
 ) -> Found
     requires table { IsAt hand seat.old }
-    requires start { start ≡ node_start hand.layout.now trail.node }
+    requires start { start ≡ node_begins (hand_slots hand) trail.node }
     requires slot { slot ≡ end_slot side more }
-    requires told { HasWalked S.Shape M.Machine hand seat.old
+    requires told { HasWalked S.Shape M.Machine M.left_dealt hand seat.old
         (way_at way (Goal.End side) trail (WalkAt.More head)) more }
     ensures table { StaysAtTable seat.old seat.new }
     ensures steps { steps_made seat.new ≡ steps_made seat.old + 3 }
-    ensures finds { WalkFinds S.Shape M.Machine hand.entry seat.old
+    ensures finds { WalkFinds S.Shape M.Machine M.left_dealt hand.entry seat.old
         (way_at way (Goal.End side) trail (WalkAt.More head)) more seat.new result }
 {
     let (kind, part) = (Kind::LoadSettled, NodeWord::Settled(SettledPart::Key(slot)));
@@ -67,12 +67,12 @@ fn end_at_side<S: Shape, M: CallMachine<S>>(
     more: u64,
 ) -> Found
     requires table { IsAt hand seat.old }
-    requires start { start ≡ node_start hand.layout.now trail.node }
-    requires told { HasWalked S.Shape M.Machine hand seat.old
+    requires start { start ≡ node_begins (hand_slots hand) trail.node }
+    requires told { HasWalked S.Shape M.Machine M.left_dealt hand seat.old
         (way_at way (Goal.End side) trail (WalkAt.More head)) more }
     ensures table { StaysAtTable seat.old seat.new }
     ensures steps { steps_made seat.new ≡ steps_made seat.old + 3 }
-    ensures finds { WalkFinds S.Shape M.Machine hand.entry seat.old
+    ensures finds { WalkFinds S.Shape M.Machine M.left_dealt hand.entry seat.old
         (way_at way (Goal.End side) trail (WalkAt.More head)) more seat.new result }
 {
     match end_slot(side, more) {
@@ -97,13 +97,13 @@ fn end_last<S: Shape, M: CallMachine<S>>(
     word: u64,
 ) -> Found
     requires table { IsAt hand seat.old }
-    requires stands { AsksHead hand.layout.now trail at start }
+    requires stands { AsksHead (hand_slots hand) trail at start }
     requires leaf { (head_of word).leaf ≡ true }
-    requires told { HasWalked S.Shape M.Machine hand seat.old (way_at way (Goal.End side) trail at)
-        word }
+    requires told { HasWalked S.Shape M.Machine M.left_dealt hand seat.old
+        (way_at way (Goal.End side) trail at) word }
     ensures table { StaysAtTable seat.old seat.new }
     ensures steps { steps_made seat.new ≤ steps_made seat.old + 7 }
-    ensures finds { WalkFinds S.Shape M.Machine hand.entry seat.old
+    ensures finds { WalkFinds S.Shape M.Machine M.left_dealt hand.entry seat.old
         (way_at way (Goal.End side) trail at) word seat.new result }
 {
     let head = Head::of(word);
@@ -135,17 +135,17 @@ fn pass_last<S: Shape, M: CallMachine<S>>(
     word: u64,
 ) -> Result<Side, Found>
     requires table { IsAt hand seat.old }
-    requires stands { AsksHead hand.layout.now trail at start }
+    requires stands { AsksHead (hand_slots hand) trail at start }
     requires left { (head_of word).leaf ≡ false
         → open_side (Goal.End side) (head_of word) ≡ Side.Left }
-    requires told { HasWalked S.Shape M.Machine hand seat.old (way_at way (Goal.End side) trail at)
-        word }
+    requires told { HasWalked S.Shape M.Machine M.left_dealt hand seat.old
+        (way_at way (Goal.End side) trail at) word }
     ensures table { StaysAtTable seat.old seat.new }
     ensures steps { MatchResult result (λ _. steps_made seat.new ≡ steps_made seat.old)
         (λ _. steps_made seat.new ≤ steps_made seat.old + 7) }
-    ensures down { IfOk result (λ to. WalkGoesDown S.Shape M.Machine hand.entry seat.old
-        (way_at way (Goal.End side) trail at) word seat.new to false) }
-    ensures finds { IfErr result (WalkFinds S.Shape M.Machine hand.entry seat.old
+    ensures down { IfOk result (λ to. WalkGoesDown S.Shape M.Machine M.left_dealt hand.entry
+        seat.old (way_at way (Goal.End side) trail at) word seat.new to false) }
+    ensures finds { IfErr result (WalkFinds S.Shape M.Machine M.left_dealt hand.entry seat.old
         (way_at way (Goal.End side) trail at) word seat.new) }
 {
     if is_leaf(word) {
@@ -177,18 +177,18 @@ fn descend_right<S: Shape, M: CallMachine<S>>(
     head: u64,
 ) -> (Reached, u64)
     requires table { IsAt hand seat.old }
-    requires stands { AsksHead hand.layout.now first.trail first.at first.start }
-    requires told { (w : Walker (hand_calls S.Shape M.Machine hand))
+    requires stands { AsksHead (hand_slots hand) first.trail first.at first.start }
+    requires told { (w : Walker (hand_calls S.Shape M.Machine M.left_dealt hand))
         × WalkerIsTold w seat.old.me.0.passes
         (way_at way (Goal.End Side.Right) first.trail first.at) first.turns head }
-    ensures stands { AsksHead hand.entry.layout.now result.0.trail result.0.at result.0.start }
+    ensures stands { AsksHead (hand_slots hand.entry) result.0.trail result.0.at result.0.start }
     ensures left { (head_of result.1).leaf ≡ false
         → open_side (Goal.End Side.Right) (head_of result.1) ≡ Side.Left }
     ensures table { StaysAtTable seat.old seat.new }
     ensures nearer { WalksNearer seat.old seat.new
-        (walk_left first.at (room way (shared_nodes hand.entry.layout.now)))
-        (walk_left result.0.at (room way (shared_nodes hand.entry.layout.now))) }
-    ensures told { (w : Walker (hand_calls S.Shape M.Machine hand.entry))
+        (walk_left first.at (room way (shared_nodes (names hand.entry))))
+        (walk_left result.0.at (room way (shared_nodes (names hand.entry)))) }
+    ensures told { (w : Walker (hand_calls S.Shape M.Machine M.left_dealt hand.entry))
         → WalkerIsTold w seat.old.me.0.passes
         (way_at way (Goal.End Side.Right) first.trail first.at) first.turns head
         → WalkerIsTold w seat.new.me.0.passes
@@ -214,13 +214,14 @@ pub(crate) fn to_last_from<S: Shape, M: CallMachine<S>>(
     first: Reached,
 ) -> (Found, LastTurns)
     requires table { IsAt hand seat.old }
-    requires stands { AsksHead hand.layout.now first.trail first.at first.start }
-    requires waits { MayWalkFrom S.Shape M.Machine hand seat.old way (Goal.End Side.Right) first }
+    requires stands { AsksHead (hand_slots hand) first.trail first.at first.start }
+    requires waits { MayWalkFrom S.Shape M.Machine M.left_dealt hand seat.old way
+        (Goal.End Side.Right) first }
     ensures table { StaysAtTable seat.old seat.new }
     ensures steps { steps_made seat.new ≤ steps_made seat.old
-        + suc (walk_left first.at (room way (shared_nodes hand.entry.layout.now))) }
-    ensures finds { WalkEndsFrom S.Shape M.Machine hand.entry seat.old way (Goal.End Side.Right)
-        first seat.new result.1 result.0 }
+        + suc (walk_left first.at (room way (shared_nodes (names hand.entry)))) }
+    ensures finds { WalkEndsFrom S.Shape M.Machine M.left_dealt hand.entry seat.old way
+        (Goal.End Side.Right) first seat.new result.1 result.0 }
 {
     let layout = *hand.layout;
     let hand = Hand {

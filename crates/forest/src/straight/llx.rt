@@ -54,10 +54,10 @@ fn read<S: Shape, M: CallMachine<S>, T: Shape>(
     word: Word,
 ) -> u64
     requires table { IsAt hand seat.old }
-    requires waits { WaitsInside (hand_calls S.Shape M.Machine hand) (inner_llx T.allows)
-        seat.old (load kind word) }
-    ensures { MakesInside (hand_calls S.Shape M.Machine hand.entry) (inner_llx T.allows)
-        seat.old seat.new (load kind word) result }
+    requires waits { WaitsInside (hand_calls S.Shape M.Machine M.left_dealt hand)
+        (inner_llx T.allows) seat.old (load kind word) }
+    ensures { MakesInside (hand_calls S.Shape M.Machine M.left_dealt hand.entry)
+        (inner_llx T.allows) seat.old seat.new (load kind word) result }
 {
     let access = Access::Load;
     step::<S, M>(hand, seat, Step { kind, word, access })
@@ -72,16 +72,17 @@ pub(crate) fn look<S: Shape, M: CallMachine<S>, T: Shape>(
     node: NodeNo,
 ) -> Result<Snap, (bool, ScxNo)>
     requires table { IsAt hand seat.old }
-    requires waits { (k : Looker T.allows (hand_calls S.Shape M.Machine hand))
+    requires waits { (k : Looker T.allows (hand_calls S.Shape M.Machine M.left_dealt hand))
         × LoadsMark k seat.old.me.0.passes node }
     ensures table { StaysAtTable seat.old seat.new }
     ensures moves { steps_made seat.old < steps_made seat.new }
     ensures steps { steps_made seat.new ≤ steps_made seat.old + 7 }
     ensures snaps { IfOk result (λ snap.
-        (k : Looker T.allows (hand_calls S.Shape M.Machine hand.entry))
+        (k : Looker T.allows (hand_calls S.Shape M.Machine M.left_dealt hand.entry))
         → LoadsMark k seat.old.me.0.passes node
         → LookerSnaps k seat.new.me.0.passes node snap) }
-    ensures waits { IfErr result (λ t. (k : Looker T.allows (hand_calls S.Shape M.Machine hand.entry))
+    ensures waits { IfErr result (λ t.
+        (k : Looker T.allows (hand_calls S.Shape M.Machine M.left_dealt hand.entry))
         → LoadsMark k seat.old.me.0.passes node
         → LoadsStateAgain k seat.new.me.0.passes node t.0 t.1) }
 {

@@ -1,12 +1,13 @@
 //! The nodes that a walk reaches, of whatever machine walks: their words, and the way down.
 ghost use Rattle.std.specs.Prelude.{◌≡◌, ◌<◌, ◌+◌, suc};
 ghost use Rattle.arena.specs.Heads.{head_of};
-ghost use Rattle.arena.specs.Layout.{all_nodes, node_start};
+ghost use Rattle.arena.specs.Layout.{all_nodes};
 ghost use Rattle.forest.specs.Leads.{steps_made};
-ghost use Rattle.forest.specs.Hands.{IsAt, hand_calls};
+ghost use Rattle.forest.specs.Hands.{IsAt, hand_calls, hand_slots, names};
 ghost use Rattle.forest.specs.Seats.{StaysAtTable};
 ghost use Rattle.forest.specs.Traces.{shared_nodes};
 ghost use Rattle.forest.specs.StraightWalk.{AsksBelow, HasWalked, WalkFinds, Walker, WalkerGoesDown, WalkerIsTold, WalkerWaits};
+ghost use Rattle.forest.specs.Slotted.{node_begins};
 ghost use Rattle.order.specs.declared.last_turns.LastTurns.{LastTurns};
 ghost use Rattle.prims.specs.Llx.Known.{load};
 ghost use Rattle.template.specs.FoundLeaf.{asked_key};
@@ -71,13 +72,13 @@ pub(crate) fn read<S: Shape, M: CallMachine<S>>(
     part: NodeWord,
 ) -> u64
     requires table { IsAt hand seat.old }
-    requires start { start ≡ node_start hand.layout.now node }
-    requires waits { (w : Walker (hand_calls S.Shape M.Machine hand)) × (m : WalkRun)
+    requires start { start ≡ node_begins (hand_slots hand) node }
+    requires waits { (w : Walker (hand_calls S.Shape M.Machine M.left_dealt hand)) × (m : WalkRun)
         × (turn : LastTurns)
         × WalkerWaits w seat.old.me.0.passes m turn (load kind (Word.Node node part)) }
     ensures table { StaysAtTable seat.old seat.new }
     ensures one { steps_made seat.new ≡ suc (steps_made seat.old) }
-    ensures told { (w : Walker (hand_calls S.Shape M.Machine hand.entry)) (m : WalkRun)
+    ensures told { (w : Walker (hand_calls S.Shape M.Machine M.left_dealt hand.entry)) (m : WalkRun)
         (turn : LastTurns)
         → WalkerWaits w seat.old.me.0.passes m turn (load kind (Word.Node node part))
         → WalkerIsTold w seat.new.me.0.passes m turn result }
@@ -92,8 +93,8 @@ pub(crate) fn read<S: Shape, M: CallMachine<S>>(
 /// begin, at each node. A walk to the first pair needs those alone.
 #[inline(always)]
 pub(crate) fn start_for<S: Shape>(hand: Hand<S>, goal: Goal, node: NodeNo) -> usize
-    requires { node.0 < all_nodes hand.layout.now }
-    ensures { result ≡ node_start hand.entry.layout.now node }
+    requires { node.0 < all_nodes (names hand) }
+    ensures { result ≡ node_begins (hand_slots hand.entry) node }
 {
     let start = hand.node_start(node);
     match goal {
@@ -127,13 +128,13 @@ pub(crate) fn end_with<S: Shape, M: CallMachine<S>>(
     key: u64,
 ) -> Found
     requires table { IsAt hand seat.old }
-    requires start { start ≡ node_start hand.layout.now trail.node }
+    requires start { start ≡ node_begins (hand_slots hand) trail.node }
     requires asked { asked_key goal key ≡ key }
-    requires told { HasWalked S.Shape M.Machine hand seat.old
+    requires told { HasWalked S.Shape M.Machine M.left_dealt hand seat.old
         (way_at way goal trail (WalkAt.Pair head more slot)) key }
     ensures table { StaysAtTable seat.old seat.new }
     ensures steps { steps_made seat.new ≡ steps_made seat.old + 2 }
-    ensures finds { WalkFinds S.Shape M.Machine hand.entry seat.old
+    ensures finds { WalkFinds S.Shape M.Machine M.left_dealt hand.entry seat.old
         (way_at way goal trail (WalkAt.Pair head more slot)) key seat.new result }
 {
     let kind = Kind::LoadSettled;
@@ -163,14 +164,14 @@ pub(crate) fn descend<S: Shape, M: CallMachine<S>>(
     side: Side,
 ) -> Reached
     requires table { IsAt hand seat.old }
-    requires start { place.start ≡ node_start hand.layout.now place.trail.node }
-    requires waits { (w : Walker (hand_calls S.Shape M.Machine hand))
+    requires start { place.start ≡ node_begins (hand_slots hand) place.trail.node }
+    requires waits { (w : Walker (hand_calls S.Shape M.Machine M.left_dealt hand))
         × WalkerGoesDown w seat.old.me.0.passes way goal place.trail (head_of word).level side
         place.turns }
     ensures table { StaysAtTable seat.old seat.new }
     ensures one { steps_made seat.new ≡ suc (steps_made seat.old) }
-    ensures below { AsksBelow hand.entry.layout.now way (head_of word).level result }
-    ensures down { (w : Walker (hand_calls S.Shape M.Machine hand.entry))
+    ensures below { AsksBelow (hand_slots hand.entry) way (head_of word).level result }
+    ensures down { (w : Walker (hand_calls S.Shape M.Machine M.left_dealt hand.entry))
         → WalkerGoesDown w seat.old.me.0.passes way goal place.trail (head_of word).level side
         place.turns
         → WalkerWaits w seat.new.me.0.passes (way_at way goal result.trail result.at) result.turns

@@ -3,7 +3,7 @@
 //! until then its place is left as it was.
 ghost use Rattle.std.specs.Prelude.{◌≡◌, suc, Ok, Err};
 ghost use Rattle.forest.specs.StraightReads.{ReadEnds, ReadEndsFrom, ReadGoesOn, Reader, ReaderBegins, ReaderEnds, ReaderGoesOn, ReaderLooksAgain, ReaderRoots, StandsToRead, again_left, root_left};
-ghost use Rattle.forest.specs.Hands.{IsAt, hand_calls};
+ghost use Rattle.forest.specs.Hands.{IsAt, hand_calls, names};
 ghost use Rattle.forest.specs.Hosts.{Host, HostedEnds, HostedIsTold, HostedWaits, inner_machine};
 ghost use Rattle.forest.specs.Leads.{Leads, steps_made};
 ghost use Rattle.forest.specs.Seats.{StaysAtTable};
@@ -43,12 +43,12 @@ pub(crate) fn read<S: Shape, M: CallMachine<S>, T: Shape, N: Machine<T>>(
     word: Word,
 ) -> u64
     requires table { IsAt hand seat.old }
-    requires waits { (r : Host (hand_calls S.Shape M.Machine hand)
+    requires waits { (r : Host (hand_calls S.Shape M.Machine M.left_dealt hand)
         (inner_machine T.Shape N.Machine)) × (m : N)
         × HostedWaits r seat.old.me.0.passes m (load Kind.LoadSettled word) }
     ensures table { StaysAtTable seat.old seat.new }
     ensures one { steps_made seat.new ≡ suc (steps_made seat.old) }
-    ensures told { (r : Host (hand_calls S.Shape M.Machine hand.entry)
+    ensures told { (r : Host (hand_calls S.Shape M.Machine M.left_dealt hand.entry)
         (inner_machine T.Shape N.Machine)) (m : N)
         → HostedWaits r seat.old.me.0.passes m (load Kind.LoadSettled word)
         → HostedIsTold r seat.new.me.0.passes m result }
@@ -66,11 +66,12 @@ pub(crate) fn tell<S: Shape, M: CallMachine<S>, T: Shape, N: Machine<T>>(
     told: u64,
 ) -> N::Answer
     requires table { IsAt hand seat.old }
-    requires told { (r : Host (hand_calls S.Shape M.Machine hand) (inner_machine T.Shape N.Machine))
+    requires told { (r : Host (hand_calls S.Shape M.Machine M.left_dealt hand)
+        (inner_machine T.Shape N.Machine))
         × HostedIsTold r seat.old.me.0.passes run.old told }
-    ensures { Leads seat.old seat.new (N.left run.old (shared_nodes hand.entry.layout.now))
-        (λ (r : Host (hand_calls S.Shape M.Machine hand.entry) (inner_machine T.Shape N.Machine))
-        ps. HostedIsTold r ps run.old told)
+    ensures { Leads seat.old seat.new (N.left run.old (shared_nodes (names hand.entry)))
+        (λ (r : Host (hand_calls S.Shape M.Machine M.left_dealt hand.entry)
+        (inner_machine T.Shape N.Machine)) ps. HostedIsTold r ps run.old told)
         (λ r ps. HostedEnds r ps run.new result) }
 {
     let turn = run.next(Some(told));
@@ -103,9 +104,9 @@ fn look_on<S: Shape, M: CallMachine<S>, R: Read + Drop>(
     node: NodeNo,
 ) -> Result<ReadNext, ReadStop>
     requires table { IsAt hand seat.old }
-    requires waits { StandsToRead S.Shape M.Machine R.means hand
+    requires waits { StandsToRead S.Shape M.Machine M.left_dealt R.means hand
         seat.old run.old (ReadNext.Look children level node) }
-    ensures { ReadGoesOn S.Shape M.Machine R.means hand.entry 1
+    ensures { ReadGoesOn S.Shape M.Machine M.left_dealt R.means hand.entry 1
         seat.old run.old (Ok (ReadNext.Look children level node)) seat.new run.new result }
 {
     match look::<S, M, Tree>(hand, seat, node) {
@@ -135,11 +136,11 @@ fn look_again<S: Shape, M: CallMachine<S>, R: Read + Drop>(
     scx: ScxNo,
 ) -> Result<R::Answer, Refused>
     requires table { IsAt hand seat.old }
-    requires waits { (r : Reader (hand_calls S.Shape M.Machine hand) R.means)
+    requires waits { (r : Reader (hand_calls S.Shape M.Machine M.left_dealt hand) R.means)
         × ReaderLooksAgain r seat.old.me.0.passes run.old children level node marked scx }
     ensures { Leads seat.old seat.new (suc (again_left R.means run.old children level node marked
-        scx (shared_nodes hand.entry.layout.now)))
-        (λ (r : Reader (hand_calls S.Shape M.Machine hand.entry) R.means) ps.
+        scx (shared_nodes (names hand.entry))))
+        (λ (r : Reader (hand_calls S.Shape M.Machine M.left_dealt hand.entry) R.means) ps.
         ReaderLooksAgain r ps run.old children level node marked scx)
         (λ r ps. ReaderEnds r ps run.new result) }
 {
@@ -165,9 +166,9 @@ fn leave<S: Shape, M: CallMachine<S>, R: Read + Drop>(
     stop: ReadStop,
 ) -> Result<R::Answer, Refused>
     requires table { IsAt hand seat.old }
-    requires stops { (r : Reader (hand_calls S.Shape M.Machine hand) R.means)
+    requires stops { (r : Reader (hand_calls S.Shape M.Machine M.left_dealt hand) R.means)
         × ReaderGoesOn r seat.old.me.0.passes run.old (Err stop) }
-    ensures { ReadEndsFrom S.Shape M.Machine R.means hand.entry
+    ensures { ReadEndsFrom S.Shape M.Machine M.left_dealt R.means hand.entry
         seat.old run.old (Err stop) seat.new run.new result }
 {
     match stop {
@@ -191,8 +192,9 @@ fn validate_on<S: Shape, M: CallMachine<S>, R: Read + Drop>(
     run: &mut ReadRun<R>,
 ) -> Result<R::Answer, Refused>
     requires table { IsAt hand seat.old }
-    requires waits { StandsToRead S.Shape M.Machine R.means hand seat.old run.old ReadNext.Validate }
-    ensures { ReadEnds S.Shape M.Machine R.means hand.entry
+    requires waits { StandsToRead S.Shape M.Machine M.left_dealt R.means hand seat.old run.old
+        ReadNext.Validate }
+    ensures { ReadEnds S.Shape M.Machine M.left_dealt R.means hand.entry
         seat.old run.old ReadNext.Validate seat.new run.new result }
 {
     let snaps = run.snaps.as_slice();
@@ -214,9 +216,9 @@ fn load_on<S: Shape, M: CallMachine<S>, R: Read + Drop, L: KnownLoad<R>>(
     load: &L,
 ) -> Result<ReadNext, ReadStop>
     requires table { IsAt hand seat.old }
-    requires waits { StandsToRead S.Shape M.Machine R.means hand
+    requires waits { StandsToRead S.Shape M.Machine M.left_dealt R.means hand
         seat.old run.old (ReadNext.Load (L.load load.now)) }
-    ensures { ReadGoesOn S.Shape M.Machine R.means hand.entry 1
+    ensures { ReadGoesOn S.Shape M.Machine M.left_dealt R.means hand.entry 1
         seat.old run.old (Ok (ReadNext.Load (L.load load.now))) seat.new run.new result }
 {
     let value = read::<S, M, Tree, ReadRun<R>>(hand, seat, load.word());
@@ -236,9 +238,9 @@ fn read_value<S: Shape, M: CallMachine<S>, R: Read + Drop>(
     key: u64,
 ) -> Result<ReadNext, ReadStop>
     requires table { IsAt hand seat.old }
-    requires waits { StandsToRead S.Shape M.Machine R.means hand
+    requires waits { StandsToRead S.Shape M.Machine M.left_dealt R.means hand
         seat.old run.old (ReadNext.Load (ReadLoad.Value place key)) }
-    ensures { ReadGoesOn S.Shape M.Machine R.means hand.entry 1
+    ensures { ReadGoesOn S.Shape M.Machine M.left_dealt R.means hand.entry 1
         seat.old run.old (Ok (ReadNext.Load (ReadLoad.Value place key))) seat.new run.new result }
 {
     let next = match load_on::<S, M, R, _>(hand, seat, run, &ValueLoad { place, key }) {
@@ -263,9 +265,9 @@ fn read_pair<S: Shape, M: CallMachine<S>, R: Read + Drop>(
     place: LeafPlace,
 ) -> Result<ReadNext, ReadStop>
     requires table { IsAt hand seat.old }
-    requires waits { StandsToRead S.Shape M.Machine R.means hand
+    requires waits { StandsToRead S.Shape M.Machine M.left_dealt R.means hand
         seat.old run.old (ReadNext.Load (ReadLoad.Pair place)) }
-    ensures { ReadGoesOn S.Shape M.Machine R.means hand.entry 1
+    ensures { ReadGoesOn S.Shape M.Machine M.left_dealt R.means hand.entry 1
         seat.old run.old (Ok (ReadNext.Load (ReadLoad.Pair place))) seat.new run.new result }
 {
     let next = match load_on::<S, M, R, _>(hand, seat, run, &PairLoad { place }) {
@@ -291,8 +293,9 @@ fn read_next_pair<S: Shape, M: CallMachine<S>, R: Read + Drop>(
     slot: Slot,
 ) -> Result<ReadNext, ReadStop>
     requires table { IsAt hand seat.old }
-    requires waits { StandsToRead S.Shape M.Machine R.means hand seat.old run.old next }
-    ensures { ReadGoesOn S.Shape M.Machine R.means hand.entry 0
+    requires waits { StandsToRead S.Shape M.Machine M.left_dealt R.means hand seat.old run.old
+        next }
+    ensures { ReadGoesOn S.Shape M.Machine M.left_dealt R.means hand.entry 0
         seat.old run.old (Ok next) seat.new run.new result }
 {
     match next {
@@ -313,8 +316,9 @@ fn read_pairs<S: Shape, M: CallMachine<S>, R: Read + Drop>(
     first: ReadNext,
 ) -> Result<ReadNext, ReadStop>
     requires table { IsAt hand seat.old }
-    requires waits { StandsToRead S.Shape M.Machine R.means hand seat.old run.old first }
-    ensures { ReadGoesOn S.Shape M.Machine R.means hand.entry 0
+    requires waits { StandsToRead S.Shape M.Machine M.left_dealt R.means hand seat.old run.old
+        first }
+    ensures { ReadGoesOn S.Shape M.Machine M.left_dealt R.means hand.entry 0
         seat.old run.old (Ok first) seat.new run.new result }
 {
     let second = match read_next_pair::<S, M, R>(hand, seat, run, first, Slot::First) {
@@ -342,9 +346,9 @@ fn read_node<S: Shape, M: CallMachine<S>, R: Read + Drop>(
     node: NodeNo,
 ) -> Result<ReadNext, ReadStop>
     requires table { IsAt hand seat.old }
-    requires waits { StandsToRead S.Shape M.Machine R.means hand
+    requires waits { StandsToRead S.Shape M.Machine M.left_dealt R.means hand
         seat.old run.old (ReadNext.Load (ReadLoad.Head above node)) }
-    ensures { ReadGoesOn S.Shape M.Machine R.means hand.entry 1
+    ensures { ReadGoesOn S.Shape M.Machine M.left_dealt R.means hand.entry 1
         seat.old run.old (Ok (ReadNext.Load (ReadLoad.Head above node))) seat.new run.new result }
 {
     let next = match load_on::<S, M, R, _>(hand, seat, run, &HeadLoad { above, node }) {
@@ -371,8 +375,9 @@ fn look_next<S: Shape, M: CallMachine<S>, R: Read + Drop>(
     next: ReadNext,
 ) -> Result<ReadNext, ReadStop>
     requires table { IsAt hand seat.old }
-    requires waits { StandsToRead S.Shape M.Machine R.means hand seat.old run.old next }
-    ensures { ReadGoesOn S.Shape M.Machine R.means hand.entry 0
+    requires waits { StandsToRead S.Shape M.Machine M.left_dealt R.means hand seat.old run.old
+        next }
+    ensures { ReadGoesOn S.Shape M.Machine M.left_dealt R.means hand.entry 0
         seat.old run.old (Ok next) seat.new run.new result }
 {
     match next {
@@ -395,8 +400,9 @@ fn rest_by_turns<S: Shape, M: CallMachine<S>, R: Read + Drop>(
     mut next: ReadNext,
 ) -> Result<R::Answer, Refused>
     requires table { IsAt hand seat.old }
-    requires waits { StandsToRead S.Shape M.Machine R.means hand seat.old run.old next }
-    ensures { ReadEnds S.Shape M.Machine R.means hand.entry
+    requires waits { StandsToRead S.Shape M.Machine M.left_dealt R.means hand seat.old run.old
+        next }
+    ensures { ReadEnds S.Shape M.Machine M.left_dealt R.means hand.entry
         seat.old run.old next seat.new run.new result }
 {
     loop {
@@ -428,8 +434,9 @@ fn rest<S: Shape, M: CallMachine<S>, R: Read + Drop>(
     next: ReadNext,
 ) -> Result<R::Answer, Refused>
     requires table { IsAt hand seat.old }
-    requires waits { StandsToRead S.Shape M.Machine R.means hand seat.old run.old next }
-    ensures { ReadEnds S.Shape M.Machine R.means hand.entry
+    requires waits { StandsToRead S.Shape M.Machine M.left_dealt R.means hand seat.old run.old
+        next }
+    ensures { ReadEnds S.Shape M.Machine M.left_dealt R.means hand.entry
         seat.old run.old next seat.new run.new result }
 {
     match next {
@@ -447,8 +454,9 @@ fn go_on<S: Shape, M: CallMachine<S>, R: Read + Drop>(
     first: ReadNext,
 ) -> Result<R::Answer, Refused>
     requires table { IsAt hand seat.old }
-    requires waits { StandsToRead S.Shape M.Machine R.means hand seat.old run.old first }
-    ensures { ReadEnds S.Shape M.Machine R.means hand.entry
+    requires waits { StandsToRead S.Shape M.Machine M.left_dealt R.means hand seat.old run.old
+        first }
+    ensures { ReadEnds S.Shape M.Machine M.left_dealt R.means hand.entry
         seat.old run.old first seat.new run.new result }
 {
     let mut next = match look_next::<S, M, R>(hand, seat, run, first) {
@@ -487,11 +495,11 @@ fn from_root<S: Shape, M: CallMachine<S>, R: Read + Drop>(
     run: &mut ReadRun<R>,
 ) -> Result<R::Answer, Refused>
     requires table { IsAt hand seat.old }
-    requires waits { (r : Reader (hand_calls S.Shape M.Machine hand) R.means)
+    requires waits { (r : Reader (hand_calls S.Shape M.Machine M.left_dealt hand) R.means)
         × ReaderRoots r seat.old.me.0.passes run.old }
     ensures { Leads seat.old seat.new (suc (root_left R.means run.old
-        (shared_nodes hand.entry.layout.now)))
-        (λ (r : Reader (hand_calls S.Shape M.Machine hand.entry) R.means) ps.
+        (shared_nodes (names hand.entry))))
+        (λ (r : Reader (hand_calls S.Shape M.Machine M.left_dealt hand.entry) R.means) ps.
         ReaderRoots r ps run.old)
         (λ r ps. ReaderEnds r ps run.new result) }
 {
@@ -510,13 +518,13 @@ pub(crate) fn call<S: Shape, M: CallMachine<S>, R: Read + Drop, B: FixedBalance>
     run: &mut ReadRun<R>,
 ) -> Result<R::Answer, Refused>
     requires table { IsAt hand seat.old }
-    requires begins { (r : Reader (hand_calls S.Shape M.Machine hand) R.means)
+    requires begins { (r : Reader (hand_calls S.Shape M.Machine M.left_dealt hand) R.means)
         × ReaderBegins r seat.old.me.0.passes run.old }
     requires mode { hand.layout.now.mode ≡ S.mode }
     requires trie { run.old.trie ≡ B.trie B.the }
     ensures leads { Leads seat.old seat.new (read_left R.means run.old
-        (nodes_by run.old.trie (shared_nodes hand.entry.layout.now)))
-        (λ (r : Reader (hand_calls S.Shape M.Machine hand.entry) R.means) ps.
+        (nodes_by run.old.trie (shared_nodes (names hand.entry))))
+        (λ (r : Reader (hand_calls S.Shape M.Machine M.left_dealt hand.entry) R.means) ps.
         ReaderBegins r ps run.old)
         (λ r ps. ReaderEnds r ps run.new result) }
     ensures nothing { ¬ R.means.asks (R.means.call run.old.read) → seat.new ≡ seat.old }

@@ -28,9 +28,9 @@ fn read_word<S: Shape, M: CallMachine<S>, E: Edit + Copy>(
     part: SettledPart,
 ) -> Next
     requires table { IsAt hand seat.old }
-    requires tries { StandsToTry S.Shape M.Machine E.means hand found.now
+    requires tries { StandsToTry S.Shape M.Machine M.left_dealt E.means hand found.now
         seat.old run.old (Ok (Next.Read node part)) }
-    ensures goes_on { TryGoesOn S.Shape M.Machine E.means hand.entry found.now
+    ensures goes_on { TryGoesOn S.Shape M.Machine M.left_dealt E.means hand.entry found.now
         seat.old run.old (Ok (Next.Read node part)) seat.new run.new (Ok result) }
     ensures moves { steps_made seat.old < steps_made seat.new }
 {
@@ -52,11 +52,11 @@ fn read_pair<S: Shape, M: CallMachine<S>, E: Edit + Copy>(
     slot: Slot,
 ) -> Next
     requires table { IsAt hand seat.old }
-    requires tries { StandsToTry S.Shape M.Machine E.means hand found.now
+    requires tries { StandsToTry S.Shape M.Machine M.left_dealt E.means hand found.now
         seat.old run.old (Ok (Next.Read node (SettledPart.Key slot))) }
     requires pair { is_at_pair run.old.read ≡ true }
     ensures pair { is_at_pair run.new.read ≡ true }
-    ensures goes_on { TryGoesOn S.Shape M.Machine E.means hand.entry found.now
+    ensures goes_on { TryGoesOn S.Shape M.Machine M.left_dealt E.means hand.entry found.now
         seat.old run.old (Ok (Next.Read node (SettledPart.Key slot))) seat.new run.new (Ok result) }
     ensures moves { steps_made seat.old < steps_made seat.new }
 {
@@ -81,10 +81,11 @@ fn read_next_pair<S: Shape, M: CallMachine<S>, E: Edit + Copy>(
     slot: Slot,
 ) -> Next
     requires table { IsAt hand seat.old }
-    requires tries { StandsToTry S.Shape M.Machine E.means hand found.now seat.old run.old (Ok next) }
+    requires tries { StandsToTry S.Shape M.Machine M.left_dealt E.means hand found.now seat.old
+        run.old (Ok next) }
     requires pair { is_at_pair run.old.read ≡ true }
     ensures pair { is_at_pair run.new.read ≡ true }
-    ensures goes_on { TryGoesOn S.Shape M.Machine E.means hand.entry found.now
+    ensures goes_on { TryGoesOn S.Shape M.Machine M.left_dealt E.means hand.entry found.now
         seat.old run.old (Ok next) seat.new run.new (Ok result) }
 {
     match next {
@@ -106,10 +107,10 @@ fn read_pairs<S: Shape, M: CallMachine<S>, E: Edit + Copy>(
     node: NodeNo,
 ) -> Next
     requires table { IsAt hand seat.old }
-    requires tries { StandsToTry S.Shape M.Machine E.means hand found.now
+    requires tries { StandsToTry S.Shape M.Machine M.left_dealt E.means hand found.now
         seat.old run.old (Ok (Next.Read node (SettledPart.Key Slot.First))) }
     requires pair { is_at_pair run.old.read ≡ true }
-    ensures goes_on { TryGoesOn S.Shape M.Machine E.means hand.entry found.now
+    ensures goes_on { TryGoesOn S.Shape M.Machine M.left_dealt E.means hand.entry found.now
         seat.old run.old (Ok (Next.Read node (SettledPart.Key Slot.First))) seat.new run.new
         (Ok result) }
     ensures moves { steps_made seat.old < steps_made seat.new }
@@ -131,9 +132,9 @@ pub(crate) fn read<S: Shape, M: CallMachine<S>, E: Edit + Copy>(
     part: SettledPart,
 ) -> Next
     requires table { IsAt hand seat.old }
-    requires tries { StandsToTry S.Shape M.Machine E.means hand found.now
+    requires tries { StandsToTry S.Shape M.Machine M.left_dealt E.means hand found.now
         seat.old run.old (Ok (Next.Read node part)) }
-    ensures goes_on { TryGoesOn S.Shape M.Machine E.means hand.entry found.now
+    ensures goes_on { TryGoesOn S.Shape M.Machine M.left_dealt E.means hand.entry found.now
         seat.old run.old (Ok (Next.Read node part)) seat.new run.new (Ok result) }
     ensures moves { steps_made seat.old < steps_made seat.new }
 {

@@ -1,7 +1,7 @@
 //! Updates that meet something in their way: their machine continues from there.
 ghost use Rattle.std.specs.Prelude.{◌≡◌, ◌<◌, suc};
 ghost use Rattle.forest.specs.Hosts.{HostedStands, HostedWaits};
-ghost use Rattle.forest.specs.Hands.{IsAt, hand_calls};
+ghost use Rattle.forest.specs.Hands.{IsAt, hand_calls, names};
 ghost use Rattle.forest.specs.Leads.{Leads};
 ghost use Rattle.forest.specs.Traces.{shared_nodes, weight};
 ghost use Rattle.forest.specs.StraightUpdate.{StandsToTry, TryEnds, Updater, UpdaterEnds, UpdaterIsBlocked, left_at_block};
@@ -40,11 +40,11 @@ fn finish<S: Shape, M: CallMachine<S>, E: Edit + Copy>(
     mut turn: Turn<Updated>,
 ) -> (Updated, UpdateRun<E, ()>)
     requires table { IsAt hand seat.old }
-    requires stands { (u : Updater (hand_calls S.Shape M.Machine hand) E.means)
+    requires stands { (u : Updater (hand_calls S.Shape M.Machine M.left_dealt hand) E.means)
         × HostedStands u seat.old.me.0.passes machine turn }
     ensures { Leads seat.old seat.new (weight turn
-        (update_left E.means machine (shared_nodes hand.entry.layout.now)))
-        (λ (u : Updater (hand_calls S.Shape M.Machine hand.entry) E.means) ps.
+        (update_left E.means machine (shared_nodes (names hand.entry))))
+        (λ (u : Updater (hand_calls S.Shape M.Machine M.left_dealt hand.entry) E.means) ps.
         HostedStands u ps machine turn)
         (λ u ps. UpdaterEnds u ps result.1 result.0) }
 {
@@ -72,11 +72,11 @@ fn rest_from<S: Shape, M: CallMachine<S>, E: Edit + Copy>(
     asked: Step,
 ) -> (Updated, UpdateRun<E, ()>)
     requires table { IsAt hand seat.old }
-    requires waits { (u : Updater (hand_calls S.Shape M.Machine hand) E.means)
+    requires waits { (u : Updater (hand_calls S.Shape M.Machine M.left_dealt hand) E.means)
         × HostedWaits u seat.old.me.0.passes (standing machine at) asked }
     ensures { Leads seat.old seat.new (suc (update_left E.means (standing machine at)
-        (shared_nodes hand.entry.layout.now)))
-        (λ (u : Updater (hand_calls S.Shape M.Machine hand.entry) E.means) ps.
+        (shared_nodes (names hand.entry))))
+        (λ (u : Updater (hand_calls S.Shape M.Machine M.left_dealt hand.entry) E.means) ps.
         HostedWaits u ps (standing machine at) asked)
         (λ u ps. UpdaterEnds u ps result.1 result.0) }
 {
@@ -93,11 +93,11 @@ pub(crate) fn from_place<S: Shape, M: CallMachine<S>, E: Edit + Copy>(
     asked: Step,
 ) -> Updated
     requires table { IsAt hand seat.old }
-    requires waits { (u : Updater (hand_calls S.Shape M.Machine hand) E.means)
+    requires waits { (u : Updater (hand_calls S.Shape M.Machine M.left_dealt hand) E.means)
         × HostedWaits u seat.old.me.0.passes (standing run.old at) asked }
     ensures { Leads seat.old seat.new (suc (update_left E.means (standing run.old at)
-        (shared_nodes hand.entry.layout.now)))
-        (λ (u : Updater (hand_calls S.Shape M.Machine hand.entry) E.means) ps.
+        (shared_nodes (names hand.entry))))
+        (λ (u : Updater (hand_calls S.Shape M.Machine M.left_dealt hand.entry) E.means) ps.
         HostedWaits u ps (standing run.old at) asked)
         (λ u ps. UpdaterEnds u ps run.new result) }
 {
@@ -118,8 +118,9 @@ fn rest_from_next<S: Shape, M: CallMachine<S>, E: Edit + Copy>(
     next: Result<Next, Stop>,
 ) -> (Updated, UpdateRun<E, ()>)
     requires table { IsAt hand seat.old }
-    requires goes_on { StandsToTry S.Shape M.Machine E.means hand found seat.old machine next }
-    ensures { TryEnds S.Shape M.Machine E.means hand.entry found
+    requires goes_on { StandsToTry S.Shape M.Machine M.left_dealt E.means hand found seat.old
+        machine next }
+    ensures { TryEnds S.Shape M.Machine M.left_dealt E.means hand.entry found
         seat.old machine next seat.new result.1 result.0 }
 {
     match next {
@@ -145,8 +146,9 @@ pub(crate) fn from_next<S: Shape, M: CallMachine<S>, E: Edit + Copy>(
     next: Result<Next, Stop>,
 ) -> Updated
     requires table { IsAt hand seat.old }
-    requires goes_on { StandsToTry S.Shape M.Machine E.means hand found.now seat.old run.old next }
-    ensures { TryEnds S.Shape M.Machine E.means hand.entry found.now
+    requires goes_on { StandsToTry S.Shape M.Machine M.left_dealt E.means hand found.now seat.old
+        run.old next }
+    ensures { TryEnds S.Shape M.Machine M.left_dealt E.means hand.entry found.now
         seat.old run.old next seat.new run.new result }
 {
     let machine = take_run(run, hand.layout);
@@ -167,11 +169,11 @@ fn rest_from_block<S: Shape, M: CallMachine<S>, E: Edit + Copy>(
     help: HelpRun,
 ) -> (Updated, UpdateRun<E, ()>)
     requires table { IsAt hand seat.old }
-    requires blocked { (u : Updater (hand_calls S.Shape M.Machine hand) E.means)
+    requires blocked { (u : Updater (hand_calls S.Shape M.Machine M.left_dealt hand) E.means)
         × UpdaterIsBlocked u seat.old.me.0.passes machine found scx help }
     ensures { Leads seat.old seat.new (left_at_block E.means machine help
-        (shared_nodes hand.entry.layout.now))
-        (λ (u : Updater (hand_calls S.Shape M.Machine hand.entry) E.means) ps.
+        (shared_nodes (names hand.entry)))
+        (λ (u : Updater (hand_calls S.Shape M.Machine M.left_dealt hand.entry) E.means) ps.
         UpdaterIsBlocked u ps machine found scx help)
         (λ u ps. UpdaterEnds u ps result.1 result.0) }
 {
@@ -190,11 +192,11 @@ pub(crate) fn from_block<S: Shape, M: CallMachine<S>, E: Edit + Copy>(
     help: &HelpRun,
 ) -> Updated
     requires table { IsAt hand seat.old }
-    requires blocked { (u : Updater (hand_calls S.Shape M.Machine hand) E.means)
+    requires blocked { (u : Updater (hand_calls S.Shape M.Machine M.left_dealt hand) E.means)
         × UpdaterIsBlocked u seat.old.me.0.passes run.old found.now scx help.now }
     ensures { Leads seat.old seat.new (left_at_block E.means run.old help.now
-        (shared_nodes hand.entry.layout.now))
-        (λ (u : Updater (hand_calls S.Shape M.Machine hand.entry) E.means) ps.
+        (shared_nodes (names hand.entry)))
+        (λ (u : Updater (hand_calls S.Shape M.Machine M.left_dealt hand.entry) E.means) ps.
         UpdaterIsBlocked u ps run.old found.now scx help.now)
         (λ u ps. UpdaterEnds u ps run.new result) }
 {

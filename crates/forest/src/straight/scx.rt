@@ -1,13 +1,13 @@
 //! SCX with an SCX-record of the share, of whatever machine makes one: its steps inline.
 ghost use Rattle.std.specs.Prelude.{◌≡◌, ◌≤◌, ◌<◌, ◌+◌, ℕ, suc, true, false, IfSome, IfNone};
-ghost use Rattle.arena.specs.Layout.{scx_start};
 ghost use Rattle.arena.specs.MemberIndex.{member_index};
-ghost use Rattle.forest.specs.Hands.{IsAt, hand_calls};
+ghost use Rattle.forest.specs.Hands.{IsAt, hand_calls, hand_slots};
 ghost use Rattle.forest.specs.InnerSteps.{MakesInside, WaitsInside};
 ghost use Rattle.forest.specs.Leads.{Leads, steps_made};
 ghost use Rattle.forest.specs.Seats.{StaysAtTable};
 ghost use Rattle.forest.specs.StraightScx.{Changer, changing_at, inner_scx, scx_fill, FillsPlan, FillsMember, FillsSeen, FillsCall, IsBehindChange};
 ghost use Rattle.forest.specs.Inside.{InnerIsTold, InnerWaits};
+ghost use Rattle.forest.specs.Slotted.{scx_begins};
 ghost use Rattle.help.specs.Help.Steps.{help_left};
 ghost use Rattle.help.specs.declared.state.HelpRun.{HelpRun};
 ghost use Rattle.prims.specs.declared.scx.ScxRun.{ScxRun};
@@ -45,11 +45,11 @@ fn fill<S: Shape, M: CallMachine<S>, T: Shape>(
     value: u64,
 ) -> u64
     requires table { IsAt hand seat.old }
-    requires start { start ≡ scx_start hand.layout.now scx }
-    requires waits { WaitsInside (hand_calls S.Shape M.Machine hand) (inner_scx T.allows)
-        seat.old (scx_fill scx part value) }
-    ensures { MakesInside (hand_calls S.Shape M.Machine hand.entry) (inner_scx T.allows)
-        seat.old seat.new (scx_fill scx part value) result }
+    requires start { start ≡ scx_begins (hand_slots hand) scx }
+    requires waits { WaitsInside (hand_calls S.Shape M.Machine M.left_dealt hand)
+        (inner_scx T.allows) seat.old (scx_fill scx part value) }
+    ensures { MakesInside (hand_calls S.Shape M.Machine M.left_dealt hand.entry)
+        (inner_scx T.allows) seat.old seat.new (scx_fill scx part value) result }
 {
     let (kind, word) = (Kind::Fill, Word::Scx(scx, part));
     let access = Access::Store(value);
@@ -67,18 +67,19 @@ fn fill_member<S: Shape, M: CallMachine<S>, T: Shape, L: SnapList>(
     j: MemberIndex,
 ) -> Option<MemberIndex>
     requires table { IsAt hand seat.old }
-    requires start { start ≡ scx_start hand.layout.now change.scx }
-    requires waits { (k : Changer T.allows (hand_calls S.Shape M.Machine hand))
+    requires start { start ≡ scx_begins (hand_slots hand) change.scx }
+    requires waits { (k : Changer T.allows (hand_calls S.Shape M.Machine M.left_dealt hand))
         × FillsMember k seat.old.me.0.passes (L.list snaps.now) change j }
     ensures table { StaysAtTable seat.old seat.new }
     ensures one { steps_made seat.new ≡ suc (steps_made seat.old) }
     ensures behind { IfSome result (λ next. (member_index next ≡ member_index j + 1)
         × (member_index next < 4)) }
     ensures next { IfSome result (λ next.
-        (k : Changer T.allows (hand_calls S.Shape M.Machine hand.entry))
+        (k : Changer T.allows (hand_calls S.Shape M.Machine M.left_dealt hand.entry))
         → FillsMember k seat.old.me.0.passes (L.list snaps.now) change j
         → FillsMember k seat.new.me.0.passes (L.list snaps.now) change next) }
-    ensures last { IfNone result ((k : Changer T.allows (hand_calls S.Shape M.Machine hand.entry))
+    ensures last { IfNone result
+        ((k : Changer T.allows (hand_calls S.Shape M.Machine M.left_dealt hand.entry))
         → FillsMember k seat.old.me.0.passes (L.list snaps.now) change j
         → FillsSeen k seat.new.me.0.passes (L.list snaps.now) change MemberIndex.First) }
 {
@@ -98,11 +99,11 @@ fn fill_members<S: Shape, M: CallMachine<S>, T: Shape, L: SnapList>(
     start: usize,
 )
     requires table { IsAt hand seat.old }
-    requires start { start ≡ scx_start hand.layout.now change.scx }
-    requires waits { (k : Changer T.allows (hand_calls S.Shape M.Machine hand))
+    requires start { start ≡ scx_begins (hand_slots hand) change.scx }
+    requires waits { (k : Changer T.allows (hand_calls S.Shape M.Machine M.left_dealt hand))
         × FillsMember k seat.old.me.0.passes (L.list snaps.now) change MemberIndex.First }
     ensures { Leads seat.old seat.new 4
-        (λ (k : Changer T.allows (hand_calls S.Shape M.Machine hand.entry)) ps.
+        (λ (k : Changer T.allows (hand_calls S.Shape M.Machine M.left_dealt hand.entry)) ps.
         FillsMember k ps (L.list snaps.now) change MemberIndex.First)
         (λ k ps. FillsSeen k ps (L.list snaps.now) change MemberIndex.First) }
 {
@@ -130,18 +131,19 @@ fn fill_seen<S: Shape, M: CallMachine<S>, T: Shape, L: SnapList>(
     j: MemberIndex,
 ) -> Option<MemberIndex>
     requires table { IsAt hand seat.old }
-    requires start { start ≡ scx_start hand.layout.now change.scx }
-    requires waits { (k : Changer T.allows (hand_calls S.Shape M.Machine hand))
+    requires start { start ≡ scx_begins (hand_slots hand) change.scx }
+    requires waits { (k : Changer T.allows (hand_calls S.Shape M.Machine M.left_dealt hand))
         × FillsSeen k seat.old.me.0.passes (L.list snaps.now) change j }
     ensures table { StaysAtTable seat.old seat.new }
     ensures one { steps_made seat.new ≡ suc (steps_made seat.old) }
     ensures behind { IfSome result (λ next. (member_index next ≡ member_index j + 1)
         × (member_index next < 4)) }
     ensures next { IfSome result (λ next.
-        (k : Changer T.allows (hand_calls S.Shape M.Machine hand.entry))
+        (k : Changer T.allows (hand_calls S.Shape M.Machine M.left_dealt hand.entry))
         → FillsSeen k seat.old.me.0.passes (L.list snaps.now) change j
         → FillsSeen k seat.new.me.0.passes (L.list snaps.now) change next) }
-    ensures last { IfNone result ((k : Changer T.allows (hand_calls S.Shape M.Machine hand.entry))
+    ensures last { IfNone result
+        ((k : Changer T.allows (hand_calls S.Shape M.Machine M.left_dealt hand.entry))
         → FillsSeen k seat.old.me.0.passes (L.list snaps.now) change j
         → FillsCall k seat.new.me.0.passes (L.list snaps.now) change) }
 {
@@ -161,11 +163,11 @@ fn fill_infos<S: Shape, M: CallMachine<S>, T: Shape, L: SnapList>(
     start: usize,
 )
     requires table { IsAt hand seat.old }
-    requires start { start ≡ scx_start hand.layout.now change.scx }
-    requires waits { (k : Changer T.allows (hand_calls S.Shape M.Machine hand))
+    requires start { start ≡ scx_begins (hand_slots hand) change.scx }
+    requires waits { (k : Changer T.allows (hand_calls S.Shape M.Machine M.left_dealt hand))
         × FillsSeen k seat.old.me.0.passes (L.list snaps.now) change MemberIndex.First }
     ensures { Leads seat.old seat.new 4
-        (λ (k : Changer T.allows (hand_calls S.Shape M.Machine hand.entry)) ps.
+        (λ (k : Changer T.allows (hand_calls S.Shape M.Machine M.left_dealt hand.entry)) ps.
         FillsSeen k ps (L.list snaps.now) change MemberIndex.First)
         (λ k ps. FillsCall k ps (L.list snaps.now) change) }
 {
@@ -192,11 +194,11 @@ pub(crate) fn fill_all<S: Shape, M: CallMachine<S>, T: Shape, L: SnapList>(
     start: usize,
 ) -> u64
     requires table { IsAt hand seat.old }
-    requires start { start ≡ scx_start hand.layout.now change.scx }
-    requires waits { (k : Changer T.allows (hand_calls S.Shape M.Machine hand))
+    requires start { start ≡ scx_begins (hand_slots hand) change.scx }
+    requires waits { (k : Changer T.allows (hand_calls S.Shape M.Machine M.left_dealt hand))
         × FillsPlan k seat.old.me.0.passes (L.list snaps.now) change }
     ensures { Leads seat.old seat.new 12
-        (λ (k : Changer T.allows (hand_calls S.Shape M.Machine hand.entry)) ps.
+        (λ (k : Changer T.allows (hand_calls S.Shape M.Machine M.left_dealt hand.entry)) ps.
         FillsPlan k ps (L.list snaps.now) change)
         (λ k ps. InnerIsTold k ps (changing_at (L.list snaps.now) change ScxAt.Call) result) }
 {
@@ -221,17 +223,17 @@ pub(crate) fn call<S: Shape, M: CallMachine<S>, T: Shape, L: SnapList>(
     help: &mut HelpRun,
 ) -> bool
     requires table { IsAt hand seat.old }
-    requires waits { (k : Changer T.allows (hand_calls S.Shape M.Machine hand))
+    requires waits { (k : Changer T.allows (hand_calls S.Shape M.Machine M.left_dealt hand))
         × FillsPlan k seat.old.me.0.passes (L.list snaps.now) change }
     requires begins { (help.old.scx ≡ change.scx) × (help.old.at ≡ HelpAt.Start) }
     ensures leads { Leads seat.old seat.new 34
-        (λ (k : Changer T.allows (hand_calls S.Shape M.Machine hand.entry)) ps.
+        (λ (k : Changer T.allows (hand_calls S.Shape M.Machine M.left_dealt hand.entry)) ps.
         FillsPlan k ps (L.list snaps.now) change)
         (λ k ps. IsBehindChange k ps (L.list snaps.now) change help.new result) }
     ensures left { result ≡ false → steps_made seat.new + suc (help_left help.new.at)
         ≤ steps_made seat.old + 34 }
 {
-    let start = hand.layout.scx_start(change.scx);
+    let start = hand.scx_start(change.scx);
     fill_all::<S, M, T, L>(hand, seat, snaps, change, start);
     helps::call::<S, M, T>(hand, seat, start, help)
 }

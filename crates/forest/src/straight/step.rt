@@ -1,13 +1,13 @@
 //! Steps of a call without a machine: only clauses say which place its machine would be at.
 ghost use Rattle.std.specs.Prelude.{◌≡◌, suc, [], ◌∷◌};
-ghost use Rattle.arena.specs.Layout.{start_of};
 ghost use Rattle.arena.specs.Machines.{Call};
 ghost use Rattle.forest.specs.Leads.{steps_made};
 ghost use Rattle.forest.specs.declared.view.SeatedPass.{SeatedPass};
 ghost use Rattle.forest.specs.Opened.{IsStepBehind};
-ghost use Rattle.forest.specs.Hands.{IsAt, IsCallOf};
+ghost use Rattle.forest.specs.Hands.{IsAt, IsCallOf, hand_slots};
 ghost use Rattle.forest.specs.Seats.{StaysAtTable};
 ghost use Rattle.forest.specs.Traces.{Waits, Told, known_of};
+ghost use Rattle.forest.specs.Slotted.{word_begins};
 
 use crate::call_machine::CallMachine;
 use crate::rule::CallStep;
@@ -27,19 +27,19 @@ pub(crate) fn step_from<S: Shape, M: CallMachine<S>>(
     start: usize,
 ) -> u64
     requires table { IsAt hand seat.old }
-    requires start { start ≡ start_of hand.layout.now step.word }
+    requires start { start ≡ word_begins (hand_slots hand) step.word }
     requires waits { (c : Call) × (first : M) × (m : M) × IsCallOf hand c
-        × Waits S.allows M.waits M.same c seat.old.me.0.passes first m step }
+        × Waits S.allows M.waits M.same M.left_dealt c seat.old.me.0.passes first m step }
     ensures table { StaysAtTable seat.old seat.new }
     ensures told { (c : Call) (first m : M) → IsCallOf hand.entry c
-        → Waits S.allows M.waits M.same c seat.old.me.0.passes first m step
-        → Told S.allows M.waits M.same c seat.new.me.0.passes first M.ready m result }
+        → Waits S.allows M.waits M.same M.left_dealt c seat.old.me.0.passes first m step
+        → Told S.allows M.waits M.same M.left_dealt c seat.new.me.0.passes first M.ready m result }
     ensures one { steps_made seat.new ≡ suc (steps_made seat.old) }
     ensures row { (p : SeatedPass) × (seat.old.me.0.passes ≡ p ∷ [])
         × IsStepBehind p.known (known_of seat.new.me.0.passes) p.number.0 hand.entry.number
         step.kind }
 {
-    let at = hand.layout.place_from(start, step.word);
+    let at = hand.place_from(start, step.word);
     let asked = CallStep {
         call: hand.number,
         step,
@@ -56,11 +56,11 @@ pub(crate) fn step<S: Shape, M: CallMachine<S>>(
 ) -> u64
     requires table { IsAt hand seat.old }
     requires waits { (c : Call) × (first : M) × (m : M) × IsCallOf hand c
-        × Waits S.allows M.waits M.same c seat.old.me.0.passes first m step }
+        × Waits S.allows M.waits M.same M.left_dealt c seat.old.me.0.passes first m step }
     ensures table { StaysAtTable seat.old seat.new }
     ensures told { (c : Call) (first m : M) → IsCallOf hand.entry c
-        → Waits S.allows M.waits M.same c seat.old.me.0.passes first m step
-        → Told S.allows M.waits M.same c seat.new.me.0.passes first M.ready m result }
+        → Waits S.allows M.waits M.same M.left_dealt c seat.old.me.0.passes first m step
+        → Told S.allows M.waits M.same M.left_dealt c seat.new.me.0.passes first M.ready m result }
     ensures one { steps_made seat.new ≡ suc (steps_made seat.old) }
     ensures row { (p : SeatedPass) × (seat.old.me.0.passes ≡ p ∷ [])
         × IsStepBehind p.known (known_of seat.new.me.0.passes) p.number.0 hand.entry.number

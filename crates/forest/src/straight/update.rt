@@ -1,6 +1,6 @@
 //! Updates, of whatever machine updates.
 ghost use Rattle.std.specs.Prelude.{◌≡◌, ◌<◌, Ok};
-ghost use Rattle.forest.specs.Hands.{IsAt, hand_calls};
+ghost use Rattle.forest.specs.Hands.{IsAt, hand_calls, names};
 ghost use Rattle.forest.specs.Leads.{Leads, steps_made};
 ghost use Rattle.forest.specs.Traces.{shared_nodes};
 ghost use Rattle.forest.specs.StraightUpdate.{StandsToTry, TryEnds, TryGoesOn, Updater, UpdaterBegins, UpdaterEnds, UpdaterLeaves, new_update};
@@ -39,12 +39,13 @@ pub(crate) fn make<S: Shape, M: CallMachine<S>, E: Edit + Copy>(
 ) -> (Updated, Share)
     requires table { IsAt hand seat.old }
     requires mode { hand.layout.now.mode ≡ S.mode }
-    requires begins { (u : Updater (hand_calls S.Shape M.Machine hand) E.means)
+    requires begins { (u : Updater (hand_calls S.Shape M.Machine M.left_dealt hand) E.means)
         × UpdaterBegins u seat.old.me.0.passes (new_update edit share tries hand.number) }
     ensures { let new = new_update edit share tries hand.entry.number in
         Leads seat.old seat.new (update_left E.means (standing new UpdateAt.Start)
-        (shared_nodes hand.entry.layout.now))
-        (λ (u : Updater (hand_calls S.Shape M.Machine hand.entry) E.means) ps. UpdaterBegins u ps new)
+        (shared_nodes (names hand.entry)))
+        (λ (u : Updater (hand_calls S.Shape M.Machine M.left_dealt hand.entry) E.means) ps.
+        UpdaterBegins u ps new)
         (λ u ps. UpdaterLeaves u ps result.0 result.1) }
 {
     let hand = Hand {
@@ -79,11 +80,11 @@ fn call<S: Shape, M: CallMachine<S>, E: Edit + Copy>(
     run: &mut UpdateRun<E, ()>,
 ) -> Updated
     requires table { IsAt hand seat.old }
-    requires begins { (u : Updater (hand_calls S.Shape M.Machine hand) E.means)
+    requires begins { (u : Updater (hand_calls S.Shape M.Machine M.left_dealt hand) E.means)
         × UpdaterBegins u seat.old.me.0.passes run.old }
     ensures { Leads seat.old seat.new (update_left E.means (standing run.old UpdateAt.Start)
-        (shared_nodes hand.entry.layout.now))
-        (λ (u : Updater (hand_calls S.Shape M.Machine hand.entry) E.means) ps.
+        (shared_nodes (names hand.entry)))
+        (λ (u : Updater (hand_calls S.Shape M.Machine M.left_dealt hand.entry) E.means) ps.
         UpdaterBegins u ps run.old)
         (λ u ps. UpdaterEnds u ps run.new result) }
 {
@@ -108,8 +109,9 @@ fn try_on<S: Shape, M: CallMachine<S>, E: Edit + Copy>(
     next: Result<Next, Stop>,
 ) -> Updated
     requires table { IsAt hand seat.old }
-    requires goes_on { StandsToTry S.Shape M.Machine E.means hand found.now seat.old run.old next }
-    ensures { TryEnds S.Shape M.Machine E.means hand.entry found.now
+    requires goes_on { StandsToTry S.Shape M.Machine M.left_dealt E.means hand found.now seat.old
+        run.old next }
+    ensures { TryEnds S.Shape M.Machine M.left_dealt E.means hand.entry found.now
         seat.old run.old next seat.new run.new result }
 {
     let looked = look_on::<S, M, E>(hand, seat, run, found, next);
@@ -138,8 +140,9 @@ fn look_on<S: Shape, M: CallMachine<S>, E: Edit + Copy>(
     next: Result<Next, Stop>,
 ) -> Result<Next, Stop>
     requires table { IsAt hand seat.old }
-    requires goes_on { StandsToTry S.Shape M.Machine E.means hand found.now seat.old run.old next }
-    ensures { TryGoesOn S.Shape M.Machine E.means hand.entry found.now
+    requires goes_on { StandsToTry S.Shape M.Machine M.left_dealt E.means hand found.now seat.old
+        run.old next }
+    ensures { TryGoesOn S.Shape M.Machine M.left_dealt E.means hand.entry found.now
         seat.old run.old next seat.new run.new result }
 {
     let mut now = next?;
@@ -159,8 +162,9 @@ fn read_on<S: Shape, M: CallMachine<S>, E: Edit + Copy>(
     next: Result<Next, Stop>,
 ) -> Result<Next, Stop>
     requires table { IsAt hand seat.old }
-    requires goes_on { StandsToTry S.Shape M.Machine E.means hand found.now seat.old run.old next }
-    ensures { TryGoesOn S.Shape M.Machine E.means hand.entry found.now
+    requires goes_on { StandsToTry S.Shape M.Machine M.left_dealt E.means hand found.now seat.old
+        run.old next }
+    ensures { TryGoesOn S.Shape M.Machine M.left_dealt E.means hand.entry found.now
         seat.old run.old next seat.new run.new result }
 {
     let mut now = next?;
@@ -180,8 +184,9 @@ fn fill_on<S: Shape, M: CallMachine<S>, E: Edit + Copy>(
     next: Result<Next, Stop>,
 ) -> Result<Next, Stop>
     requires table { IsAt hand seat.old }
-    requires goes_on { StandsToTry S.Shape M.Machine E.means hand found.now seat.old run.old next }
-    ensures { TryGoesOn S.Shape M.Machine E.means hand.entry found.now
+    requires goes_on { StandsToTry S.Shape M.Machine M.left_dealt E.means hand found.now seat.old
+        run.old next }
+    ensures { TryGoesOn S.Shape M.Machine M.left_dealt E.means hand.entry found.now
         seat.old run.old next seat.new run.new result }
 {
     let mut now = next?;
@@ -201,9 +206,9 @@ fn look_at<S: Shape, M: CallMachine<S>, E: Edit + Copy>(
     node: NodeNo,
 ) -> Result<Next, Stop>
     requires table { IsAt hand seat.old }
-    requires tries { StandsToTry S.Shape M.Machine E.means hand found.now
+    requires tries { StandsToTry S.Shape M.Machine M.left_dealt E.means hand found.now
         seat.old run.old (Ok (Next.Look node)) }
-    ensures goes_on { TryGoesOn S.Shape M.Machine E.means hand.entry found.now
+    ensures goes_on { TryGoesOn S.Shape M.Machine M.left_dealt E.means hand.entry found.now
         seat.old run.old (Ok (Next.Look node)) seat.new run.new result }
     ensures moves { steps_made seat.old < steps_made seat.new }
 {
@@ -224,9 +229,9 @@ fn change<S: Shape, M: CallMachine<S>, E: Edit + Copy>(
     scx: ScxNo,
 ) -> Updated
     requires table { IsAt hand seat.old }
-    requires tries { StandsToTry S.Shape M.Machine E.means hand found.now
+    requires tries { StandsToTry S.Shape M.Machine M.left_dealt E.means hand found.now
         seat.old run.old (Ok (Next.Change scx)) }
-    ensures { TryEnds S.Shape M.Machine E.means hand.entry found.now
+    ensures { TryEnds S.Shape M.Machine M.left_dealt E.means hand.entry found.now
         seat.old run.old (Ok (Next.Change scx)) seat.new run.new result }
 {
     let copy = *hand.layout;
@@ -245,7 +250,7 @@ fn change<S: Shape, M: CallMachine<S>, E: Edit + Copy>(
     };
     let snaps = run.snaps.as_slice();
     let mut help = HelpRun::new(scx);
-    let start = own.layout.scx_start(scx);
+    let start = own.scx_start(scx);
     scx::fill_all::<S, M, Tree, &[Snap]>(own, seat, &snaps, change, start);
     if helps::begin::<S, M, Tree, E>(own, seat, start, &mut help) {
         helps::commit::<S, M, Tree>(own, seat, start, &help);

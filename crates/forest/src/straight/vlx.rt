@@ -27,10 +27,11 @@ pub(crate) fn validate<S: Shape, M: CallMachine<S>, L: SnapList + Copy>(
 ) -> (usize, u64)
     requires table { IsAt hand seat.old }
     requires some { 0 < length (L.list snaps) }
-    requires waits { (v : Validator (hand_calls S.Shape M.Machine hand) (L.list snaps))
+    requires waits { (v : Validator (hand_calls S.Shape M.Machine M.left_dealt hand) (L.list snaps))
         × LoadsFirstInfo v seat.old.me.0.passes }
     ensures table { StaysAtTable seat.old seat.new }
-    ensures told { (v : Validator (hand_calls S.Shape M.Machine hand.entry) (L.list snaps))
+    ensures told { (v : Validator (hand_calls S.Shape M.Machine M.left_dealt hand.entry)
+        (L.list snaps))
         → LoadsFirstInfo v seat.old.me.0.passes
         → InnerIsTold v seat.new.me.0.passes result.0 result.1 }
     ensures within { (0 < result.0) × (result.0 ≤ length (L.list snaps)) }

@@ -1,12 +1,12 @@
 //! Walks to a key or to the first pair, of whatever machine walks; and that of an edit to its goal.
 ghost use Rattle.std.specs.Prelude.{◌≡◌, ◌≢◌, ◌<◌, ◌≤◌, ◌+◌, ◌*◌, ◌^◌, ℕ, suc, true, false, if◌then◌else◌, nat_lt, IfOk, IfErr, MatchResult};
 ghost use Rattle.arena.specs.Heads.{head_of};
-ghost use Rattle.arena.specs.Layout.{node_start};
 ghost use Rattle.forest.specs.Leads.{steps_made};
-ghost use Rattle.forest.specs.Hands.{IsAt, hand_calls};
+ghost use Rattle.forest.specs.Hands.{IsAt, hand_calls, hand_slots, names};
 ghost use Rattle.forest.specs.Seats.{StaysAtTable};
 ghost use Rattle.forest.specs.Traces.{shared_nodes};
 ghost use Rattle.forest.specs.StraightWalk.{AsksHead, HasWalked, IsAskedFork, MayWalk, MayWalkFrom, WalkEnds, WalkEndsFrom, WalkFinds, WalkGoesDown, Walker, WalkerFinds, WalkerHasHead, WalksNearer, with_turn_if};
+ghost use Rattle.forest.specs.Slotted.{node_begins};
 ghost use Rattle.order.specs.LastTurns.{SharesKey, SharesNoKey};
 ghost use Rattle.order.specs.declared.last_turns.LastTurns.{LastTurns};
 ghost use Rattle.template.specs.FoundLeaf.{asked_key, path_key};
@@ -95,13 +95,13 @@ fn end_from<S: Shape, M: CallMachine<S>>(
     first: Slot,
 ) -> Found
     requires table { IsAt hand seat.old }
-    requires start { start ≡ node_start hand.layout.now trail.node }
+    requires start { start ≡ node_begins (hand_slots hand) trail.node }
     requires first { first ≡ goal_slot goal more }
-    requires told { HasWalked S.Shape M.Machine hand seat.old
+    requires told { HasWalked S.Shape M.Machine M.left_dealt hand seat.old
         (way_at way goal trail (WalkAt.More head)) more }
     ensures table { StaysAtTable seat.old seat.new }
     ensures steps { steps_made seat.new ≤ steps_made seat.old + 6 }
-    ensures finds { WalkFinds S.Shape M.Machine hand.entry seat.old
+    ensures finds { WalkFinds S.Shape M.Machine M.left_dealt hand.entry seat.old
         (way_at way goal trail (WalkAt.More head)) more seat.new result }
 {
     let mut slot = first;
@@ -141,13 +141,14 @@ fn end<S: Shape, M: CallMachine<S>>(
 ) -> Found
     requires first { (more : ℕ) → goal_slot goal more ≡ Slot.First }
     requires table { IsAt hand seat.old }
-    requires stands { AsksHead hand.layout.now trail at start }
+    requires stands { AsksHead (hand_slots hand) trail at start }
     requires leaf { (head_of word).leaf ≡ true }
-    requires told { HasWalked S.Shape M.Machine hand seat.old (way_at way goal trail at) word }
+    requires told { HasWalked S.Shape M.Machine M.left_dealt hand seat.old
+        (way_at way goal trail at) word }
     ensures table { StaysAtTable seat.old seat.new }
     ensures steps { steps_made seat.new ≤ steps_made seat.old + 7 }
-    ensures finds { WalkFinds S.Shape M.Machine hand.entry seat.old (way_at way goal trail at) word
-        seat.new result }
+    ensures finds { WalkFinds S.Shape M.Machine M.left_dealt hand.entry seat.old
+        (way_at way goal trail at) word seat.new result }
 {
     let head = Head::of(word);
     if head.class == 0 {
@@ -258,14 +259,15 @@ fn pass_by_key<S: Shape, M: CallMachine<S>>(
     word: u64,
 ) -> Result<(Side, bool), Found>
     requires table { IsAt hand seat.old }
-    requires stands { AsksHead hand.layout.now trail at start }
+    requires stands { AsksHead (hand_slots hand) trail at start }
     requires asks { IsAskedFork goal (head_of word) }
-    requires told { HasWalked S.Shape M.Machine hand seat.old (way_at way goal trail at) word }
+    requires told { HasWalked S.Shape M.Machine M.left_dealt hand seat.old
+        (way_at way goal trail at) word }
     ensures table { StaysAtTable seat.old seat.new }
     ensures one { steps_made seat.new ≡ suc (steps_made seat.old) }
-    ensures down { IfOk result (λ to. WalkGoesDown S.Shape M.Machine hand.entry seat.old
-        (way_at way goal trail at) word seat.new to.0 to.1) }
-    ensures finds { IfErr result (WalkFinds S.Shape M.Machine hand.entry seat.old
+    ensures down { IfOk result (λ to. WalkGoesDown S.Shape M.Machine M.left_dealt hand.entry
+        seat.old (way_at way goal trail at) word seat.new to.0 to.1) }
+    ensures finds { IfErr result (WalkFinds S.Shape M.Machine M.left_dealt hand.entry seat.old
         (way_at way goal trail at) word seat.new) }
 {
     let (kind, part) = (
@@ -298,22 +300,24 @@ fn step_by_key<S: Shape, M: CallMachine<S>>(
     word: u64,
 ) -> Result<(Reached, u64), Found>
     requires table { IsAt hand seat.old }
-    requires stands { AsksHead hand.layout.now place.trail place.at place.start }
+    requires stands { AsksHead (hand_slots hand) place.trail place.at place.start }
     requires asks { IsAskedFork goal (head_of word) }
-    requires told { (w : Walker (hand_calls S.Shape M.Machine hand))
+    requires told { (w : Walker (hand_calls S.Shape M.Machine M.left_dealt hand))
         × WalkerHasHead w seat.old.me.0.passes way goal place word }
     ensures table { StaysAtTable seat.old seat.new }
     ensures stands { IfOk result (λ to.
-        AsksHead hand.entry.layout.now to.0.trail to.0.at to.0.start) }
+        AsksHead (hand_slots hand.entry) to.0.trail to.0.at to.0.start) }
     ensures nearer { IfOk result (λ to.
-        3 + walk_left to.0.at (room way (shared_nodes hand.entry.layout.now))
-        ≤ walk_left place.at (room way (shared_nodes hand.entry.layout.now))) }
+        3 + walk_left to.0.at (room way (shared_nodes (names hand.entry)))
+        ≤ walk_left place.at (room way (shared_nodes (names hand.entry)))) }
     ensures steps { MatchResult result (λ _. steps_made seat.new ≡ steps_made seat.old + 3)
         (λ _. steps_made seat.new ≡ suc (steps_made seat.old)) }
-    ensures told { IfOk result (λ to. (w : Walker (hand_calls S.Shape M.Machine hand.entry))
+    ensures told { IfOk result (λ to.
+        (w : Walker (hand_calls S.Shape M.Machine M.left_dealt hand.entry))
         → WalkerHasHead w seat.old.me.0.passes way goal place word
         → WalkerHasHead w seat.new.me.0.passes way goal to.0 to.1) }
-    ensures finds { IfErr result (λ found. (w : Walker (hand_calls S.Shape M.Machine hand.entry))
+    ensures finds { IfErr result (λ found.
+        (w : Walker (hand_calls S.Shape M.Machine M.left_dealt hand.entry))
         → WalkerHasHead w seat.old.me.0.passes way goal place word
         → WalkerFinds w seat.new.me.0.passes way goal place.turns found) }
 {
@@ -342,23 +346,25 @@ fn descend_by_keys<S: Shape, M: CallMachine<S>>(
     head: u64,
 ) -> Result<(Reached, u64), (Found, LastTurns)>
     requires table { IsAt hand seat.old }
-    requires stands { AsksHead hand.layout.now first.trail first.at first.start }
-    requires told { (w : Walker (hand_calls S.Shape M.Machine hand))
+    requires stands { AsksHead (hand_slots hand) first.trail first.at first.start }
+    requires told { (w : Walker (hand_calls S.Shape M.Machine M.left_dealt hand))
         × WalkerHasHead w seat.old.me.0.passes way goal first head }
     ensures table { StaysAtTable seat.old seat.new }
     ensures stands { IfOk result (λ to.
-        AsksHead hand.entry.layout.now to.0.trail to.0.at to.0.start) }
+        AsksHead (hand_slots hand.entry) to.0.trail to.0.at to.0.start) }
     ensures open { IfOk result (λ to.
         (head_of to.1).leaf ≡ false → asks_key goal (head_of to.1) ≡ false) }
     ensures nearer { IfOk result (λ to. WalksNearer seat.old seat.new
-        (walk_left first.at (room way (shared_nodes hand.entry.layout.now)))
-        (walk_left to.0.at (room way (shared_nodes hand.entry.layout.now)))) }
+        (walk_left first.at (room way (shared_nodes (names hand.entry))))
+        (walk_left to.0.at (room way (shared_nodes (names hand.entry))))) }
     ensures steps { IfErr result (λ _. steps_made seat.new ≤ steps_made seat.old
-        + walk_left first.at (room way (shared_nodes hand.entry.layout.now))) }
-    ensures told { IfOk result (λ to. (w : Walker (hand_calls S.Shape M.Machine hand.entry))
+        + walk_left first.at (room way (shared_nodes (names hand.entry)))) }
+    ensures told { IfOk result (λ to.
+        (w : Walker (hand_calls S.Shape M.Machine M.left_dealt hand.entry))
         → WalkerHasHead w seat.old.me.0.passes way goal first head
         → WalkerHasHead w seat.new.me.0.passes way goal to.0 to.1) }
-    ensures finds { IfErr result (λ ends. (w : Walker (hand_calls S.Shape M.Machine hand.entry))
+    ensures finds { IfErr result (λ ends.
+        (w : Walker (hand_calls S.Shape M.Machine M.left_dealt hand.entry))
         → WalkerHasHead w seat.old.me.0.passes way goal first head
         → WalkerFinds w seat.new.me.0.passes way goal ends.1 ends.0) }
 {
@@ -390,15 +396,16 @@ fn pass_open<S: Shape, M: CallMachine<S>>(
 ) -> Result<(Side, bool), Found>
     requires first { (more : ℕ) → goal_slot goal more ≡ Slot.First }
     requires table { IsAt hand seat.old }
-    requires stands { AsksHead hand.layout.now trail at start }
+    requires stands { AsksHead (hand_slots hand) trail at start }
     requires open { (head_of word).leaf ≡ false → asks_key goal (head_of word) ≡ false }
-    requires told { HasWalked S.Shape M.Machine hand seat.old (way_at way goal trail at) word }
+    requires told { HasWalked S.Shape M.Machine M.left_dealt hand seat.old
+        (way_at way goal trail at) word }
     ensures table { StaysAtTable seat.old seat.new }
     ensures steps { MatchResult result (λ _. steps_made seat.new ≡ steps_made seat.old)
         (λ _. steps_made seat.new ≤ steps_made seat.old + 7) }
-    ensures down { IfOk result (λ to. WalkGoesDown S.Shape M.Machine hand.entry seat.old
-        (way_at way goal trail at) word seat.new to.0 to.1) }
-    ensures finds { IfErr result (WalkFinds S.Shape M.Machine hand.entry seat.old
+    ensures down { IfOk result (λ to. WalkGoesDown S.Shape M.Machine M.left_dealt hand.entry
+        seat.old (way_at way goal trail at) word seat.new to.0 to.1) }
+    ensures finds { IfErr result (WalkFinds S.Shape M.Machine M.left_dealt hand.entry seat.old
         (way_at way goal trail at) word seat.new) }
 {
     if is_leaf(word) {
@@ -419,13 +426,13 @@ fn to_goal_from<S: Shape, M: CallMachine<S>>(
 ) -> (Found, LastTurns)
     requires slot { (more : ℕ) → goal_slot goal more ≡ Slot.First }
     requires table { IsAt hand seat.old }
-    requires stands { AsksHead hand.layout.now first.trail first.at first.start }
-    requires waits { MayWalkFrom S.Shape M.Machine hand seat.old way goal first }
+    requires stands { AsksHead (hand_slots hand) first.trail first.at first.start }
+    requires waits { MayWalkFrom S.Shape M.Machine M.left_dealt hand seat.old way goal first }
     ensures table { StaysAtTable seat.old seat.new }
     ensures steps { steps_made seat.new ≤ steps_made seat.old
-        + suc (walk_left first.at (room way (shared_nodes hand.entry.layout.now))) }
-    ensures finds { WalkEndsFrom S.Shape M.Machine hand.entry seat.old way goal first seat.new
-        result.1 result.0 }
+        + suc (walk_left first.at (room way (shared_nodes (names hand.entry)))) }
+    ensures finds { WalkEndsFrom S.Shape M.Machine M.left_dealt hand.entry seat.old way goal first
+        seat.new result.1 result.0 }
 {
     let layout = *hand.layout;
     let hand = Hand {
@@ -466,12 +473,12 @@ pub(crate) fn to_goal<S: Shape, M: CallMachine<S>>(
 ) -> (Found, LastTurns)
     requires first { (more : ℕ) → goal_slot goal more ≡ Slot.First }
     requires table { IsAt hand seat.old }
-    requires waits { MayWalk S.Shape M.Machine hand seat.old way goal }
+    requires waits { MayWalk S.Shape M.Machine M.left_dealt hand seat.old way goal }
     ensures table { StaysAtTable seat.old seat.new }
     ensures steps { steps_made seat.new ≤ steps_made seat.old
-        + (3 * (2 + room way (shared_nodes hand.entry.layout.now)) + 5) }
-    ensures finds { WalkEnds S.Shape M.Machine hand.entry seat.old way goal seat.new result.1
-        result.0 }
+        + (3 * (2 + room way (shared_nodes (names hand.entry))) + 5) }
+    ensures finds { WalkEnds S.Shape M.Machine M.left_dealt hand.entry seat.old way goal seat.new
+        result.1 result.0 }
 {
     to_goal_from::<S, M>(hand, seat, way, goal, Reached::root())
 }
@@ -488,13 +495,13 @@ pub(crate) fn call_from<S: Shape, M: CallMachine<S>, E: Edit>(
     first: Reached,
 ) -> (Found, LastTurns)
     requires table { IsAt hand seat.old }
-    requires stands { AsksHead hand.layout.now first.trail first.at first.start }
-    requires waits { MayWalkFrom S.Shape M.Machine hand seat.old way goal first }
+    requires stands { AsksHead (hand_slots hand) first.trail first.at first.start }
+    requires waits { MayWalkFrom S.Shape M.Machine M.left_dealt hand seat.old way goal first }
     ensures table { StaysAtTable seat.old seat.new }
     ensures steps { steps_made seat.new ≤ steps_made seat.old
-        + suc (walk_left first.at (room way (shared_nodes hand.entry.layout.now))) }
-    ensures finds { WalkEndsFrom S.Shape M.Machine hand.entry seat.old way goal first seat.new
-        result.1 result.0 }
+        + suc (walk_left first.at (room way (shared_nodes (names hand.entry)))) }
+    ensures finds { WalkEndsFrom S.Shape M.Machine M.left_dealt hand.entry seat.old way goal first
+        seat.new result.1 result.0 }
 {
     match goal {
         Goal::Key(_) => to_goal_from::<S, M>(hand, seat, way, goal, first),

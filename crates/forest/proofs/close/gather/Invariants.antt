@@ -1,6 +1,7 @@
 use Rattle.std.proofs.Common.{◌≡◌, ◌++◌, List, vec_len}
 use Rattle.std.specs.List.{All}
 use Rattle.forest.specs.Passes.{PassView, IsOn}
+use Rattle.forest.specs.Slotted.{names_of_table}
 use Rattle.forest.specs.JoinedSeats.{AreIn}
 use Rattle.forest.proofs.close.gather.Given as goal
 
@@ -9,7 +10,7 @@ invariant-loop-pass g l = record {
   gone : List PassView;
   were : l.fn.passes.items ≡ l.passes.items ++ gone;
   are_in : AreIn g.S.Shape.allows gone l.all.me.0.passes;
-  left : All (IsOn l.words.table.shared.table_id l.layout) l.passes.items;
+  left : All (IsOn l.words.table.shared.table_id (names_of_table l.words.table.shared.key)) l.passes.items;
   table : l.all.table_id ≡ l.words.table.shared.table_id;
 }
 

@@ -3,31 +3,33 @@ use Rattle.histories.specs.Common.{Layout, Opened, IsRun}
 use Rattle.planting.specs.Plantings.{PlantingView, opening_for}
 use Rattle.forest.specs.declared.rule.Plot.{Plot}
 use Rattle.forest.specs.declared.view.SeatedPass.{SeatedPass}
-use Rattle.forest.specs.TableRule.{new_passes, no_memory, rest_of, first_of, seated_pass}
+use Rattle.forest.specs.Slotted.{plot_at}
+use Rattle.forest.specs.TableRule.{all_dealt, new_passes, rest_of, first_of, seated_pass}
 use Rattle.forest.specs.Traces.{planting_of}
 use Rattle.forest.specs.Passes.{PassView, ground, new_pass}
 use Rattle.prims.proofs.Lemmas.{get_more}
 use Rattle.forest.proofs.Openings.{first_left, rest_left}
+use Rattle.forest.proofs.Slotted.{names_are}
 use Rattle.forest.proofs.forest.pass_all.Goals as goal
 
 -- what the next seat knows
-dealt : (plot : Plot) (lay : Layout) (n : ℕ) (own : List SeatedPass) → plot.layout ≡ lay → own ≡ first_of (new_passes plot n (lay.passes - n)) → n < lay.passes → own ≡ seated_pass n lay plot.planting no_memory [] ∷ []
-dealt plot lay n own same is inside = subst (λ (l : Layout). own ≡ seated_pass n l plot.planting no_memory [] ∷ []) same (is ∙ first_left plot n lay.passes inside)
+dealt : (plot : Plot) (lay : Layout) (n : ℕ) (own : List SeatedPass) → plot.layout ≡ lay → own ≡ first_of (new_passes plot n (lay.passes - n)) → n < lay.passes → own ≡ seated_pass n lay plot.planting (all_dealt lay n) [] ∷ []
+dealt plot lay n own same is inside = subst (λ (l : Layout). own ≡ seated_pass n l plot.planting (all_dealt l n) [] ∷ []) same (is ∙ first_left plot n lay.passes inside)
 
 pub new-requires-clause-seat : goal.new-requires-clause-seat
 new-requires-clause-seat g c =
-    let own = dealt c.args.words.now.table.shared.key c.args.layout.now c.loop-number.number c.deal-own.result.me.0.passes c.requires.table.0.1 (c.deal-own.ensures.passes.1 ∙ ap first_of c.loop-number.invariant.left) (search rules) in
-    (subst (λ (ps : List SeatedPass). c.deal-own.result.me.0.passes ≡ seated_pass c.loop-number.number c.args.layout.now (planting_of ps) no_memory [] ∷ []) (sym own) own, c.deal-own.ensures.bare.1)
+    let own = dealt (plot_at c.args.words.now.table.shared.key) c.args.layout.now c.loop-number.number c.deal-own.result.me.0.passes (names_are c.args.words.now.table.shared.key c.args.layout.now c.requires.table.0.1 c.requires.table.0.2) (c.deal-own.ensures.passes.1 ∙ ap first_of c.loop-number.invariant.left) (search rules) in
+    (subst (λ (ps : List SeatedPass). c.deal-own.result.me.0.passes ≡ seated_pass c.loop-number.number c.args.layout.now (planting_of ps) (all_dealt c.args.layout.now c.loop-number.number) [] ∷ []) (sym own) own, c.deal-own.ensures.bare.1)
 
 pub new-requires-clause-run : goal.new-requires-clause-run
 new-requires-clause-run g c =
-    let own = dealt c.args.words.now.table.shared.key c.args.layout.now c.loop-number.number c.deal-own.result.me.0.passes c.requires.table.0.1 (c.deal-own.ensures.passes.1 ∙ ap first_of c.loop-number.invariant.left) (search rules) in
+    let own = dealt (plot_at c.args.words.now.table.shared.key) c.args.layout.now c.loop-number.number c.deal-own.result.me.0.passes (names_are c.args.words.now.table.shared.key c.args.layout.now c.requires.table.0.1 c.requires.table.0.2) (c.deal-own.ensures.passes.1 ∙ ap first_of c.loop-number.invariant.left) (search rules) in
     subst (λ (b : PlantingView). IsRun g.S.Shape.allows c.args.layout.now (Opened (opening_for b))) (sym (ap planting_of own)) c.requires.run
 
 pub loop-number-preserved : goal.loop-number-preserved
 loop-number-preserved g c =
     let planting = c.args.words.now.table.shared.key.planting in
-    let own = dealt c.args.words.now.table.shared.key c.args.layout.now c.loop-number.number c.deal-own.result.me.0.passes c.requires.table.0.1 (c.deal-own.ensures.passes.1 ∙ ap first_of c.loop-number.invariant.left) (search rules) in
+    let own = dealt (plot_at c.args.words.now.table.shared.key) c.args.layout.now c.loop-number.number c.deal-own.result.me.0.passes (names_are c.args.words.now.table.shared.key c.args.layout.now c.requires.table.0.1 c.requires.table.0.2) (c.deal-own.ensures.passes.1 ∙ ap first_of c.loop-number.invariant.left) (search rules) in
     record {
       count = search rules;
       each = λ tries j d get. get_more (λ k (d : PassView). d ≡ new_pass (ground c.args.words.now.table.shared.table_id c.args.layout.now planting tries) k) c.loop-number.passes.items c.new.result c.loop-number.number
@@ -38,7 +40,7 @@ loop-number-preserved g c =
           j d (sym (ap (λ l. slice_get l j) c.in_ok-push.ensures.items) ∙ get);
       table = c.deal-own.ensures.table.0 ∙ c.loop-number.invariant.table;
       bare = c.deal-own.ensures.bare.0 ∙ c.loop-number.invariant.bare;
-      left = c.deal-own.ensures.passes.0 ∙ ap rest_of c.loop-number.invariant.left ∙ rest_left c.args.words.now.table.shared.key c.loop-number.number c.args.layout.now.passes (search rules);
+      left = c.deal-own.ensures.passes.0 ∙ ap rest_of c.loop-number.invariant.left ∙ rest_left (plot_at c.args.words.now.table.shared.key) c.loop-number.number c.args.layout.now.passes (search rules);
     }
 
 pub returns : goal.returns

@@ -1,4 +1,5 @@
 use Rattle.std.proofs.Common.{◌≡◌, ◌-◌, ℕ, [], Some, slice_get, vec_len}
+use Rattle.forest.specs.Slotted.{plot_at}
 use Rattle.forest.specs.TableRule.{new_passes}
 use Rattle.forest.specs.Passes.{PassView, ground, new_pass}
 use Rattle.forest.proofs.forest.pass_all.Given as goal
@@ -9,5 +10,5 @@ invariant-loop-number g l = record {
   each : (tries j : ℕ) (d : PassView) → slice_get l.passes.items j ≡ Some d → d ≡ new_pass (ground l.words.table.shared.table_id l.layout l.words.table.shared.key.planting tries) j;
   table : l.seat.table_id ≡ l.words.table.shared.table_id;
   bare : l.seat.me.1 ≡ [];
-  left : l.seat.me.0.passes ≡ new_passes l.words.table.shared.key l.number (l.layout.passes - l.number);
+  left : l.seat.me.0.passes ≡ new_passes (plot_at l.words.table.shared.key) l.number (l.layout.passes - l.number);
 }

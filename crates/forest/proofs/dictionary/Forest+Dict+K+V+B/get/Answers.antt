@@ -22,8 +22,8 @@ to_goal-requires-clause-waits g c =
     let named = ap taken_of c.pass.view_is ∙ sym c.taken-number.ensures in
     let lay = layout_of c.pass.view_is c.self.view_is c.requires.pass in
     let small = subst (λ (n : ℕ). n < 2 ^ 64) (sym c.word.ensures) (g.met.K.WordKey.fits c.args.key.now c.valid.ensures) in (
-      walker g.K.WordKey.is_valid g.K.WordKey.word_of g.V.WordValue.is_valid g.V.WordValue.word_of c.pass.inside.share c.self.inside.tries c.word.result c.leaf_way-way.result (call_of c.pass.inside c.pass.invariant (taken_of (pass_view c.pass.inside))) c.self.inside.layout c.taken-number.result lay named,
-      get_walks g.K.WordKey.is_valid g.K.WordKey.word_of g.V.WordValue.is_valid g.V.WordValue.word_of (g.B.Balance.trie g.B.FixedBalance.the) c.pass.inside c.pass.invariant c.self.inside.tries c.word.result c.taken-number.result c.leaf_way-way.result c.self.inside.layout lay named (c.leaf_way-way.ensures ∙ ap leaf_way c.in_trie.ensures) small,
+      walker g.K.WordKey.is_valid g.K.WordKey.word_of g.V.WordValue.is_valid g.V.WordValue.word_of c.pass.inside.share c.self.inside.tries c.word.result c.leaf_way-way.result (call_of c.pass.inside c.pass.invariant (taken_of (pass_view c.pass.inside))) _ c.taken-number.result lay named,
+      get_walks g.K.WordKey.is_valid g.K.WordKey.word_of g.V.WordValue.is_valid g.V.WordValue.word_of (g.B.Balance.trie g.B.FixedBalance.the) c.pass.inside c.pass.invariant c.self.inside.tries c.word.result c.taken-number.result c.leaf_way-way.result _ lay named (c.leaf_way-way.ensures ∙ ap leaf_way c.in_trie.ensures) small,
     )
 
 -- the machine with its walk there
@@ -32,7 +32,7 @@ at g c = getting c.pass.inside.share c.self.inside.tries c.word.result
 
 -- how it has ended
 over : (g : Over) (c : After-value_of g) → (last : WalkRun) × IsOver g.K.WordKey.is_valid g.K.WordKey.word_of g.V.WordValue.is_valid g.V.WordValue.word_of (g.B.Balance.trie g.B.FixedBalance.the) c.pass.inside c.pass.invariant c.to_goal.new.seat (at g c (way_at c.leaf_way-way.result (Key c.word.result) root_trail Start)) (at g c last) (Value c.value_of.result)
-over g c = get_over g.K.WordKey.is_valid g.K.WordKey.word_of g.V.WordValue.is_valid g.V.WordValue.word_of (g.B.Balance.trie g.B.FixedBalance.the) c.pass.inside c.pass.invariant c.to_goal.new.seat c.self.inside.tries c.word.result c.taken-number.result c.leaf_way-way.result c.self.inside.layout
+over g c = get_over g.K.WordKey.is_valid g.K.WordKey.word_of g.V.WordValue.is_valid g.V.WordValue.word_of (g.B.Balance.trie g.B.FixedBalance.the) c.pass.inside c.pass.invariant c.to_goal.new.seat c.self.inside.tries c.word.result c.taken-number.result c.leaf_way-way.result _
     (layout_of c.pass.view_is c.self.view_is c.requires.pass) (ap taken_of c.pass.view_is ∙ sym c.taken-number.ensures) (c.leaf_way-way.ensures ∙ ap leaf_way c.in_trie.ensures) (subst (λ (n : ℕ). n < 2 ^ 64) (sym c.word.ensures) (g.met.K.WordKey.fits c.args.key.now c.valid.ensures))
     c.to_goal.result.1 c.to_goal.result.0 c.value_of.result c.value_of.ensures.valid c.value_of.ensures.number c.to_goal.ensures.finds
 

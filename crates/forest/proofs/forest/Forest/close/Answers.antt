@@ -1,12 +1,14 @@
 use Rattle.std.proofs.Common.{sym, subst}
 use Rattle.std.specs.List.{All}
-use Rattle.histories.specs.Common.{Contents, Layout}
-use Rattle.forest.specs.Passes.{Ground, IsOn, IsOf, IsClosed}
-use Rattle.forest.proofs.Closes.{closes}
+use Rattle.histories.specs.Common.{Contents}
+use Rattle.forest.specs.Passes.{Ground, IsOf, IsClosed}
+use Rattle.forest.proofs.Closes.{closes_site}
 use Rattle.forest.proofs.forest.Forest.close.Goals as goal
 
 pub returns-clause-closed : goal.returns-clause-closed
-returns-clause-closed g c = let words : Contents = record { layout = c.self.inside.layout; words = c.close.result.words.items } in
-    subst (λ (f : Ground). IsClosed g.S.Shape.allows f.layout c.args.passes.items words) c.self.view_is (subst (λ (l : Layout). IsClosed g.S.Shape.allows l c.args.passes.items record { layout = l; words = c.close.result.words.items }) c.self.invariant.0.1
-    (closes c.self.inside.words.table.shared.table_id c.self.inside.words.table.shared.key c.args.passes.items c.in-Some.seat.id c.in-Some.seat.me.0 c.close.result.words.items c.close.result.slots.items
-    (subst (λ (l : Layout). All (IsOn c.self.inside.words.table.shared.table_id l) c.args.passes.items) (sym c.self.invariant.0.1) (subst (λ (f : Ground). All (IsOf f) c.args.passes.items) (sym c.self.view_is) c.requires.passes)) c.in-Some.ensures.all c.close.ensures.values.2))
+returns-clause-closed g c =
+    let words : Contents = record { layout = c.self.inside.layout; words = c.close.result.words.items } in
+    let table = c.self.invariant.0 in
+    subst (λ (f : Ground). IsClosed g.S.Shape.allows f.layout c.args.passes.items words) c.self.view_is
+    (closes_site c.self.inside.words.table.shared.table_id c.self.inside.words.table.shared.key c.self.inside.layout table.1 table.2 c.args.passes.items c.in-Some.seat.id c.in-Some.seat.me.0 c.close.result.words.items c.close.result.slots.items
+    (subst (λ (f : Ground). All (IsOf f) c.args.passes.items) (sym c.self.view_is) c.requires.passes) c.in-Some.ensures.all c.close.ensures.values.2)

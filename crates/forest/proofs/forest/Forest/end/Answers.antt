@@ -1,10 +1,10 @@
 use Rattle.std.proofs.Common.{List, [], ◌∷◌, inl, refl, sym, subst}
 use Rattle.std.specs.List.{All}
 use Rattle.std.proofs.lemmas.List.Elements.{All-nil, All-cons}
-use Rattle.histories.specs.Common.{Layout, Contents}
-use Rattle.forest.specs.Passes.{PassView, Ground, IsOn, IsOf, IsClosed}
+use Rattle.histories.specs.Common.{Contents}
+use Rattle.forest.specs.Passes.{PassView, Ground, IsOf, IsClosed}
 use Rattle.forest.specs.JoinedSeats.{AreIn}
-use Rattle.forest.proofs.Closes.{closes}
+use Rattle.forest.proofs.Closes.{closes_site}
 use Rattle.forest.proofs.forest.Forest.end.Goals as goal
 
 pub returns-clause-closed : goal.returns-clause-closed
@@ -15,8 +15,6 @@ returns-clause-closed g c =
     let k = c.seat_of-seat.ensures.pass in
     let of_it = subst (λ (f : Ground). All (IsOf f) one) (sym c.self.view_is) (All-cons (IsOf c.args.self) c.args.pass [] c.requires.pass (All-nil (IsOf c.args.self))) in
     let in_it : AreIn g.S.Shape.allows one seat.me.0.passes = subst (λ l. AreIn g.S.Shape.allows one l) (sym k.1) ((k.0, inl refl, k.2), tt) in
-    let key = c.self.inside.words.table.shared.key in
-    let on_it = subst (λ (l : Layout). All (IsOn c.self.inside.words.table.shared.table_id l) one) (sym c.self.invariant.0.1) of_it in
+    let table = c.self.invariant.0 in
     subst (λ (f : Ground). IsClosed g.S.Shape.allows f.layout one words) c.self.view_is
-    (subst (λ (l : Layout). IsClosed g.S.Shape.allows l one record { layout = l; words = c.close.result.words.items }) c.self.invariant.0.1
-    (closes c.self.inside.words.table.shared.table_id key one seat.id seat.me.0 c.close.result.words.items c.close.result.slots.items on_it in_it c.close.ensures.values.2))
+    (closes_site c.self.inside.words.table.shared.table_id c.self.inside.words.table.shared.key c.self.inside.layout table.1 table.2 one seat.id seat.me.0 c.close.result.words.items c.close.result.slots.items of_it in_it c.close.ensures.values.2)

@@ -12,6 +12,7 @@ use Rattle.forest.specs.Passes.{Ground, taken_of}
 use Rattle.forest.specs.PassInvariant.{pass_view}
 use Rattle.forest.specs.Traces.{CallBegins, shared_nodes, weight}
 use Rattle.forest.proofs.Advances.{few_taken, weighs}
+use Rattle.forest.specs.CallSteps.{HasDictLeft}
 use Rattle.forest.specs.StraightCalls.{IsSameDictCall}
 use Rattle.forest.proofs.DictCalls.{request_starts}
 use Rattle.forest.proofs.OpenBegins.{begins_open}
@@ -26,14 +27,14 @@ named : (g : Over) (c : goal.After-next-turn g) → c.taken-call.result ≡ take
 named g c = c.taken-call.ensures ∙ sym (ap taken_of c.pass.view_is)
 
 -- the machine begins the call
-starts : (g : Over) (c : goal.After-next-turn g) → CallBegins (TypedAllows (IsWordOf g.K.WordKey.is_valid g.K.WordKey.word_of) (IsWordOf g.V.WordValue.is_valid g.V.WordValue.word_of)) (DictIsReady (IsWordOf g.K.WordKey.is_valid g.K.WordKey.word_of) (IsWordOf g.V.WordValue.is_valid g.V.WordValue.word_of)) (call_of c.pass.inside c.pass.invariant (taken_of (pass_view c.pass.inside))) c.pass.inside.seat.me.0.passes c.new-run.result
+starts : (g : Over) (c : goal.After-next-turn g) → CallBegins (TypedAllows (IsWordOf g.K.WordKey.is_valid g.K.WordKey.word_of) (IsWordOf g.V.WordValue.is_valid g.V.WordValue.word_of)) (DictIsReady (IsWordOf g.K.WordKey.is_valid g.K.WordKey.word_of) (IsWordOf g.V.WordValue.is_valid g.V.WordValue.word_of)) HasDictLeft (call_of c.pass.inside c.pass.invariant (taken_of (pass_view c.pass.inside))) c.pass.inside.seat.me.0.passes c.new-run.result
 starts g c =
     let made = c.new-run.ensures in
     request_starts g.K.WordKey.is_valid g.K.WordKey.word_of g.V.WordValue.is_valid g.V.WordValue.word_of c.pass.inside c.pass.invariant c.new-run.result c.args.request c.self.inside.tries c.taken-call.result (sym (named g c)) made.call (made.trie ∙ c.in_trie.ensures) made.typed made.tries (made.fresh c.self.invariant.3) c.requires.few made.share
 
 -- its first turn has been made
 first_turn : (g : Over) (c : goal.After-next-turn g) → DictStands g.K.WordKey.is_valid g.K.WordKey.word_of g.V.WordValue.is_valid g.V.WordValue.word_of (call_of c.pass.inside c.pass.invariant (taken_of (pass_view c.pass.inside))) c.pass.inside.seat.me.0.passes c.new-run.result c.next-turn.new.self c.next-turn.result
-first_turn g c = stands (TypedAllows (IsWordOf g.K.WordKey.is_valid g.K.WordKey.word_of) (IsWordOf g.V.WordValue.is_valid g.V.WordValue.word_of)) (DictIsReady (IsWordOf g.K.WordKey.is_valid g.K.WordKey.word_of) (IsWordOf g.V.WordValue.is_valid g.V.WordValue.word_of)) (DictWaits (IsWordOf g.K.WordKey.is_valid g.K.WordKey.word_of) (IsWordOf g.V.WordValue.is_valid g.V.WordValue.word_of)) (IsSameDictCall g.K.WordKey.is_valid g.K.WordKey.word_of g.V.WordValue.is_valid g.V.WordValue.word_of) (call_of c.pass.inside c.pass.invariant (taken_of (pass_view c.pass.inside))) _ c.new-run.result c.next-turn.new.self c.next-turn.result (DictAnswers g.K.WordKey.is_valid g.K.WordKey.word_of g.V.WordValue.is_valid g.V.WordValue.word_of) c.next-turn.ensures.same (λ h run is. c.next-turn.ensures.turn (call_of c.pass.inside c.pass.invariant (taken_of (pass_view c.pass.inside))) h run is) (starts g c)
+first_turn g c = stands (TypedAllows (IsWordOf g.K.WordKey.is_valid g.K.WordKey.word_of) (IsWordOf g.V.WordValue.is_valid g.V.WordValue.word_of)) (DictIsReady (IsWordOf g.K.WordKey.is_valid g.K.WordKey.word_of) (IsWordOf g.V.WordValue.is_valid g.V.WordValue.word_of)) (DictWaits (IsWordOf g.K.WordKey.is_valid g.K.WordKey.word_of) (IsWordOf g.V.WordValue.is_valid g.V.WordValue.word_of)) (IsSameDictCall g.K.WordKey.is_valid g.K.WordKey.word_of g.V.WordValue.is_valid g.V.WordValue.word_of) HasDictLeft (call_of c.pass.inside c.pass.invariant (taken_of (pass_view c.pass.inside))) _ c.new-run.result c.next-turn.new.self c.next-turn.result (DictAnswers g.K.WordKey.is_valid g.K.WordKey.word_of g.V.WordValue.is_valid g.V.WordValue.word_of) c.next-turn.ensures.same (λ h run is. c.next-turn.ensures.turn (call_of c.pass.inside c.pass.invariant (taken_of (pass_view c.pass.inside))) h run is) (starts g c)
 
 -- it may make no more steps than such a call
 few_steps : (g : Over) (c : goal.After-next-turn g) → weight c.next-turn.result (map_left c.next-turn.new.self.run (shared_nodes c.pass.inside.layout)) ≤ most_steps (call_in c.next-turn.new.self.run) c.next-turn.new.self.tries (nodes_by (g.B.Balance.trie g.B.FixedBalance.the) (shared_nodes c.pass.inside.layout))

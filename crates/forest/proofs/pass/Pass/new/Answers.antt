@@ -1,11 +1,12 @@
-use Rattle.std.proofs.Common.{◌≡◌, [], sym, ap, subst}
+use Rattle.std.proofs.Common.{◌≡◌, ◌∙◌, [], refl, sym, ap, subst}
 use Rattle.arena.specs.Share.{whole_share}
 use Rattle.arena.proofs.Lemmas.{ends_self}
 use Rattle.histories.specs.Common.{Opened, IsRun}
 use Rattle.planting.specs.Plantings.{opening_for}
+use Rattle.prims.specs.Shares.{share_end}
 use Rattle.forest.specs.Shares.{IsBetweenCalls}
-use Rattle.forest.specs.TableRule.{history_of, no_memory}
-use Rattle.forest.specs.Traces.{known_of, planting_of, run_at}
+use Rattle.forest.specs.TableRule.{all_dealt, dealt_to, history_of}
+use Rattle.forest.specs.Traces.{known_of, memory_of, planting_of, run_at}
 use Rattle.forest.proofs.Advances.{seat_back}
 use Rattle.forest.proofs.Blames.{blamed_nobody}
 use Rattle.forest.proofs.Passes.{begins_at_rest}
@@ -13,12 +14,13 @@ use Rattle.forest.proofs.pass.Pass.new.Goals as goal
 
 pub invariant_of-result : goal.invariant_of-result
 invariant_of-result g c = record {
-  seat = seat_back c.args.seat.me.0.passes c.args.number.0 c.args.layout.now (planting_of c.args.seat.me.0.passes) no_memory [] c.requires.seat.0 (ends_self (history_of (planting_of c.args.seat.me.0.passes) []));
+  seat = seat_back c.args.seat.me.0.passes c.args.number.0 c.args.layout.now (planting_of c.args.seat.me.0.passes) (all_dealt c.args.layout.now c.args.number.0) [] c.requires.seat.0 (ends_self (history_of (planting_of c.args.seat.me.0.passes) [])) refl;
   bare = c.requires.seat.1;
   is_mode = c.requires.mode;
   is_pass = c.requires.pass;
   sound = subst (IsRun g.S.Shape.allows c.args.layout.now) (sym begins) c.requires.run;
   rest = rw c.of.ensures.whole (subst (λ h. IsBetweenCalls c.args.layout.now c.args.number.0 h (whole_share c.args.layout.now c.args.number.0)) (sym begins) (begins_at_rest c.args.layout.now (opening_for (planting_of c.args.seat.me.0.passes)) c.args.number.0 c.requires.run.lawful));
+  dealt = λ map. ap share_end c.of.ensures.whole ∙ sym (ap (λ ps. dealt_to (memory_of ps)) c.requires.seat.0);
   blamed = blamed_nobody _ c.new.ensures;
 }
   where

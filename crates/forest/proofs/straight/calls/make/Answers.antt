@@ -13,6 +13,7 @@ use Rattle.dict.specs.WordReplies.{edit_reply}
 use Rattle.dict.specs.declared.dict.DictRun.{DictRun}
 use Rattle.forest.specs.StraightCalls.{IsFreshCall, SeatCallBegins}
 use Rattle.forest.specs.StraightUpdate.{UpdaterBegins, new_update}
+use Rattle.forest.specs.Hands.{names}
 use Rattle.forest.proofs.StraightCalls.{editor, edit_begins, edit_ended, edit_fresh, edit_machine, replies, tries_steps}
 use Rattle.forest.proofs.straight.calls.make.Given.{Over}
 use Rattle.forest.proofs.straight.calls.make.Goals.{After-goal-goal}
@@ -29,15 +30,15 @@ first g c = edit_machine g.G.EditGoal.goal g.G.EditGoal.trie g.R.EditRule.rule c
 is_fresh : (g : Over) (c : After-goal-goal g) → IsFreshCall (g.B.Balance.trie g.B.FixedBalance.the) (edit_call g.G.EditGoal.goal g.R.EditRule.rule c.args.edit) c.args.share c.args.tries c.args.hand.number (first g c)
 is_fresh g c = edit_fresh g.G.EditGoal.goal g.G.EditGoal.trie g.R.EditRule.rule c.args.share c.args.tries c.args.hand.number c.requires.tries (update g c) c.args.edit refl refl refl refl refl c.requires.small (g.B.Balance.trie g.B.FixedBalance.the) c.requires.in_trie
 
-may_begin : (g : Over) (c : After-goal-goal g) (k : Call) (lay : k.layout ≡ c.args.hand.layout.now) (number : k.number ≡ c.args.hand.number) → SeatCallBegins g.K.WordKey.is_valid g.K.WordKey.word_of g.V.WordValue.is_valid g.V.WordValue.word_of (g.B.Balance.trie g.B.FixedBalance.the) k c.args.seat.now.me.0.passes (edit_call g.G.EditGoal.goal g.R.EditRule.rule c.args.edit) c.args.share c.args.tries c.args.hand.number → UpdaterBegins (editor g.K.WordKey.is_valid g.K.WordKey.word_of g.V.WordValue.is_valid g.V.WordValue.word_of (first g c) k c.args.hand.layout.now c.args.hand.number lay number g.G.EditGoal.goal g.G.EditGoal.trie g.R.EditRule.rule) c.args.seat.now.me.0.passes (update g c)
-may_begin g c k lay number x = edit_begins g.K.WordKey.is_valid g.K.WordKey.word_of g.V.WordValue.is_valid g.V.WordValue.word_of (first g c) k c.args.hand.layout.now c.args.hand.number lay number g.G.EditGoal.goal g.G.EditGoal.trie g.R.EditRule.rule _ (update g c) refl (x (first g c) (is_fresh g c))
+may_begin : (g : Over) (c : After-goal-goal g) (k : Call) (lay : k.layout ≡ (names c.args.hand)) (number : k.number ≡ c.args.hand.number) → SeatCallBegins g.K.WordKey.is_valid g.K.WordKey.word_of g.V.WordValue.is_valid g.V.WordValue.word_of (g.B.Balance.trie g.B.FixedBalance.the) k c.args.seat.now.me.0.passes (edit_call g.G.EditGoal.goal g.R.EditRule.rule c.args.edit) c.args.share c.args.tries c.args.hand.number → UpdaterBegins (editor g.K.WordKey.is_valid g.K.WordKey.word_of g.V.WordValue.is_valid g.V.WordValue.word_of (first g c) k (names c.args.hand) c.args.hand.number lay number g.G.EditGoal.goal g.G.EditGoal.trie g.R.EditRule.rule) c.args.seat.now.me.0.passes (update g c)
+may_begin g c k lay number x = edit_begins g.K.WordKey.is_valid g.K.WordKey.word_of g.V.WordValue.is_valid g.V.WordValue.word_of (first g c) k (names c.args.hand) c.args.hand.number lay number g.G.EditGoal.goal g.G.EditGoal.trie g.R.EditRule.rule _ (update g c) refl (x (first g c) (is_fresh g c))
 
 pub make-updated-requires-clause-begins : goal.make-updated-requires-clause-begins
-make-updated-requires-clause-begins g c = let r = c.requires.begins in let k = (goal.at.make-updated-requires-clause-begins g c).After-goal-goal in (editor g.K.WordKey.is_valid g.K.WordKey.word_of g.V.WordValue.is_valid g.V.WordValue.word_of (first g k) r.0 c.args.hand.layout.now c.args.hand.number r.1.0 r.1.1 g.G.EditGoal.goal g.G.EditGoal.trie g.R.EditRule.rule, may_begin g k r.0 r.1.0 r.1.1 r.2)
+make-updated-requires-clause-begins g c = let r = c.requires.begins in let k = (goal.at.make-updated-requires-clause-begins g c).After-goal-goal in (editor g.K.WordKey.is_valid g.K.WordKey.word_of g.V.WordValue.is_valid g.V.WordValue.word_of (first g k) r.0 (names c.args.hand) c.args.hand.number r.1.0 r.1.1 g.G.EditGoal.goal g.G.EditGoal.trie g.R.EditRule.rule, may_begin g k r.0 r.1.0 r.1.1 r.2)
 
 pub returns-clause-steps : goal.returns-clause-steps
 returns-clause-steps g c =
-    let nodes = shared_nodes c.args.hand.layout.now in
+    let nodes = shared_nodes (names c.args.hand) in
     let call = edit_call g.G.EditGoal.goal g.R.EditRule.rule c.args.edit in
     let all = edit_steps g.G.EditGoal.goal g.G.EditGoal.trie g.R.EditRule.rule c.args.edit c.args.tries nodes in
     subst (λ n. seat_steps c.make-updated.new.seat.me.0.passes ≤ seat_steps c.args.seat.now.me.0.passes + n) (all ∙ ap (λ t. most_steps call c.args.tries (nodes_by t nodes)) c.requires.in_trie)
@@ -46,7 +47,7 @@ returns-clause-steps g c =
 pub returns-clause-ends : goal.returns-clause-ends
 returns-clause-ends g c = λ call fits x.
     let k = (goal.at.returns-clause-ends g c).After-goal-goal in
-    let left = c.make-updated.ensures.to (editor g.K.WordKey.is_valid g.K.WordKey.word_of g.V.WordValue.is_valid g.V.WordValue.word_of (first g k) call c.args.hand.layout.now c.args.hand.number fits.0 fits.1 g.G.EditGoal.goal g.G.EditGoal.trie g.R.EditRule.rule) (may_begin g k call fits.0 fits.1 x) in
+    let left = c.make-updated.ensures.to (editor g.K.WordKey.is_valid g.K.WordKey.word_of g.V.WordValue.is_valid g.V.WordValue.word_of (first g k) call (names c.args.hand) c.args.hand.number fits.0 fits.1 g.G.EditGoal.goal g.G.EditGoal.trie g.R.EditRule.rule) (may_begin g k call fits.0 fits.1 x) in
     let last = edit_machine g.G.EditGoal.goal g.G.EditGoal.trie g.R.EditRule.rule c.args.tries left.0 in
     record {
       first = first g k;
@@ -54,5 +55,5 @@ returns-clause-ends g c = λ call fits x.
       fresh = is_fresh g k;
       is_left = left.1;
       ends = replies g.K.WordKey.is_valid g.K.WordKey.word_of g.V.WordValue.is_valid g.V.WordValue.word_of call _ (first g k) last (edit_reply c.goal-goal.result c.make-updated.result.0) c.of_update.result c.of_update.ensures
-          (edit_ended g.K.WordKey.is_valid g.K.WordKey.word_of g.V.WordValue.is_valid g.V.WordValue.word_of (first g k) call c.args.hand.layout.now c.args.hand.number fits.0 fits.1 g.G.EditGoal.goal g.G.EditGoal.trie g.R.EditRule.rule _ left.0 c.make-updated.result.0 c.args.edit c.goal-goal.result (is_fresh g k).is_call c.goal-goal.ensures left.2);
+          (edit_ended g.K.WordKey.is_valid g.K.WordKey.word_of g.V.WordValue.is_valid g.V.WordValue.word_of (first g k) call (names c.args.hand) c.args.hand.number fits.0 fits.1 g.G.EditGoal.goal g.G.EditGoal.trie g.R.EditRule.rule _ left.0 c.make-updated.result.0 c.args.edit c.goal-goal.result (is_fresh g k).is_call c.goal-goal.ensures left.2);
     }

@@ -2,6 +2,7 @@ use Rattle.std.proofs.Common.{◌∙◌, sym}
 use Rattle.arena.specs.Share.{Remaining}
 use Rattle.ordered_map.specs.OrderedMap.{Neighbour}
 use Rattle.forest.specs.StraightCalls.{IsFreshCall}
+use Rattle.forest.specs.Hands.{names}
 use Rattle.forest.proofs.StraightCalls.{made_begins, made_by, made_ended, neighbours, read_fresh, read_machine}
 use Rattle.forest.proofs.straight.calls.neighbour.Given.{Over}
 use Rattle.forest.proofs.straight.calls.neighbour.Goals.{After-run-run}
@@ -15,10 +16,10 @@ pub call-told-requires-clause-begins : goal.call-told-requires-clause-begins
 call-told-requires-clause-begins g c =
     let r = c.requires.begins in
     let fresh = searches g (goal.at.call-told-requires-clause-begins g c).After-run-run r.1 in
-    (made_by g.K.WordKey.is_valid g.K.WordKey.word_of g.V.WordValue.is_valid g.V.WordValue.word_of neighbours r.0 c.args.hand.layout.now c.args.hand.number r.2 c.args.tries _ r.1 c.run-run.result (g.B.Balance.trie g.B.FixedBalance.the) fresh, made_begins g.K.WordKey.is_valid g.K.WordKey.word_of g.V.WordValue.is_valid g.V.WordValue.word_of neighbours r.0 c.args.hand.layout.now c.args.hand.number r.2 c.args.tries _ r.1 c.run-run.result (g.B.Balance.trie g.B.FixedBalance.the) fresh _ r.3)
+    (made_by g.K.WordKey.is_valid g.K.WordKey.word_of g.V.WordValue.is_valid g.V.WordValue.word_of neighbours r.0 (names c.args.hand) c.args.hand.number r.2 c.args.tries _ r.1 c.run-run.result (g.B.Balance.trie g.B.FixedBalance.the) fresh, made_begins g.K.WordKey.is_valid g.K.WordKey.word_of g.V.WordValue.is_valid g.V.WordValue.word_of neighbours r.0 (names c.args.hand) c.args.hand.number r.2 c.args.tries _ r.1 c.run-run.result (g.B.Balance.trie g.B.FixedBalance.the) fresh _ r.3)
 
 pub returns-clause-ends : goal.returns-clause-ends
 returns-clause-ends g c = λ call share fits x.
     let fresh = searches g (goal.at.returns-clause-ends g c).After-run-run share in
-    made_ended g.K.WordKey.is_valid g.K.WordKey.word_of g.V.WordValue.is_valid g.V.WordValue.word_of neighbours call c.args.hand.layout.now c.args.hand.number fits c.args.tries _ share c.run-run.result (g.B.Balance.trie g.B.FixedBalance.the) fresh _ c.call-told.new.run c.call-told.result c.of_neighbour.result c.of_neighbour.ensures
-    (c.call-told.ensures.leads.to (made_by g.K.WordKey.is_valid g.K.WordKey.word_of g.V.WordValue.is_valid g.V.WordValue.word_of neighbours call c.args.hand.layout.now c.args.hand.number fits c.args.tries _ share c.run-run.result (g.B.Balance.trie g.B.FixedBalance.the) fresh) (made_begins g.K.WordKey.is_valid g.K.WordKey.word_of g.V.WordValue.is_valid g.V.WordValue.word_of neighbours call c.args.hand.layout.now c.args.hand.number fits c.args.tries _ share c.run-run.result (g.B.Balance.trie g.B.FixedBalance.the) fresh _ x))
+    made_ended g.K.WordKey.is_valid g.K.WordKey.word_of g.V.WordValue.is_valid g.V.WordValue.word_of neighbours call (names c.args.hand) c.args.hand.number fits c.args.tries _ share c.run-run.result (g.B.Balance.trie g.B.FixedBalance.the) fresh _ c.call-told.new.run c.call-told.result c.of_neighbour.result c.of_neighbour.ensures
+    (c.call-told.ensures.leads.to (made_by g.K.WordKey.is_valid g.K.WordKey.word_of g.V.WordValue.is_valid g.V.WordValue.word_of neighbours call (names c.args.hand) c.args.hand.number fits c.args.tries _ share c.run-run.result (g.B.Balance.trie g.B.FixedBalance.the) fresh) (made_begins g.K.WordKey.is_valid g.K.WordKey.word_of g.V.WordValue.is_valid g.V.WordValue.word_of neighbours call (names c.args.hand) c.args.hand.number fits c.args.tries _ share c.run-run.result (g.B.Balance.trie g.B.FixedBalance.the) fresh _ x))

@@ -3,6 +3,7 @@ use Rattle.arena.specs.Share.{Remaining}
 use Rattle.ordered_map.specs.OrderedMap.{Range}
 use Rattle.ordered_map.specs.Requests.{as_map_call}
 use Rattle.forest.specs.StraightCalls.{IsFreshCall}
+use Rattle.forest.specs.Hands.{names}
 use Rattle.forest.proofs.StraightCalls.{made_begins, made_by, made_ended, ranges, read_fresh, read_machine}
 use Rattle.forest.proofs.straight.calls.read.Given.{Over}
 use Rattle.forest.proofs.straight.calls.read.Goals.{After-range_run-run}
@@ -21,13 +22,13 @@ pub call-told-requires-clause-begins : goal.call-told-requires-clause-begins
 call-told-requires-clause-begins g c =
     let r = c.requires.begins in
     let fresh = visits g (goal.at.call-told-requires-clause-begins g c).After-range_run-run r.1 in
-    (made_by g.K.WordKey.is_valid g.K.WordKey.word_of g.V.WordValue.is_valid g.V.WordValue.word_of ranges r.0 c.args.hand.layout.now c.args.hand.number r.2 c.args.tries _ r.1 c.range_run-run.result (g.B.Balance.trie g.B.FixedBalance.the) fresh, made_begins g.K.WordKey.is_valid g.K.WordKey.word_of g.V.WordValue.is_valid g.V.WordValue.word_of ranges r.0 c.args.hand.layout.now c.args.hand.number r.2 c.args.tries _ r.1 c.range_run-run.result (g.B.Balance.trie g.B.FixedBalance.the) fresh _ r.3)
+    (made_by g.K.WordKey.is_valid g.K.WordKey.word_of g.V.WordValue.is_valid g.V.WordValue.word_of ranges r.0 (names c.args.hand) c.args.hand.number r.2 c.args.tries _ r.1 c.range_run-run.result (g.B.Balance.trie g.B.FixedBalance.the) fresh, made_begins g.K.WordKey.is_valid g.K.WordKey.word_of g.V.WordValue.is_valid g.V.WordValue.word_of ranges r.0 (names c.args.hand) c.args.hand.number r.2 c.args.tries _ r.1 c.range_run-run.result (g.B.Balance.trie g.B.FixedBalance.the) fresh _ r.3)
 
 pub returns-in-Range-clause-ends : goal.returns-in-Range-clause-ends
 returns-in-Range-clause-ends g c = λ call share fits x.
     let fresh = visits g (goal.at.returns-in-Range-clause-ends g c).After-range_run-run share in
-    made_ended g.K.WordKey.is_valid g.K.WordKey.word_of g.V.WordValue.is_valid g.V.WordValue.word_of ranges call c.args.hand.layout.now c.args.hand.number fits c.args.tries _ share c.range_run-run.result (g.B.Balance.trie g.B.FixedBalance.the) fresh _ c.call-told.new.run c.call-told.result c.of_range.result c.of_range.ensures
-    (c.call-told.ensures.leads.to (made_by g.K.WordKey.is_valid g.K.WordKey.word_of g.V.WordValue.is_valid g.V.WordValue.word_of ranges call c.args.hand.layout.now c.args.hand.number fits c.args.tries _ share c.range_run-run.result (g.B.Balance.trie g.B.FixedBalance.the) fresh) (made_begins g.K.WordKey.is_valid g.K.WordKey.word_of g.V.WordValue.is_valid g.V.WordValue.word_of ranges call c.args.hand.layout.now c.args.hand.number fits c.args.tries _ share c.range_run-run.result (g.B.Balance.trie g.B.FixedBalance.the) fresh _ x))
+    made_ended g.K.WordKey.is_valid g.K.WordKey.word_of g.V.WordValue.is_valid g.V.WordValue.word_of ranges call (names c.args.hand) c.args.hand.number fits c.args.tries _ share c.range_run-run.result (g.B.Balance.trie g.B.FixedBalance.the) fresh _ c.call-told.new.run c.call-told.result c.of_range.result c.of_range.ensures
+    (c.call-told.ensures.leads.to (made_by g.K.WordKey.is_valid g.K.WordKey.word_of g.V.WordValue.is_valid g.V.WordValue.word_of ranges call (names c.args.hand) c.args.hand.number fits c.args.tries _ share c.range_run-run.result (g.B.Balance.trie g.B.FixedBalance.the) fresh) (made_begins g.K.WordKey.is_valid g.K.WordKey.word_of g.V.WordValue.is_valid g.V.WordValue.word_of ranges call (names c.args.hand) c.args.hand.number fits c.args.tries _ share c.range_run-run.result (g.B.Balance.trie g.B.FixedBalance.the) fresh _ x))
 
 pub neighbour-requires-clause-begins : goal.neighbour-requires-clause-begins
 neighbour-requires-clause-begins g c = rw c.in-Successor.is at c.requires.begins

@@ -1,5 +1,6 @@
 use Rattle.edits.proofs.Lemmas.{weighs_next}
 use Rattle.forest.specs.Traces.{shared_nodes}
+use Rattle.forest.specs.Hands.{names}
 use Rattle.forest.proofs.Hosts.{hosted_word}
 use Rattle.forest.proofs.StraightUpdate.{fills_end, node_steps}
 use Rattle.forest.proofs.straight.fresh_nodes.fill_node.Goals as goal
@@ -20,5 +21,5 @@ returns-clause-goes_on g c = let all = c.fill_words.ensures.goes_on in record {
       let y = all.to u x in
       fills_end u _ c.args.run.now c.filled.new.self c.args.found.now c.args.nth y.0 y.1 c.filled.result c.filled.ensures.same c.filled.ensures.tries c.filled.ensures.spends (λ b h run try z. c.filled.ensures.turn u.call b h y.0 run try z y.2) y.3;
   later = all.later;
-  steps = node_steps _ _ _ _ _ _ (rw (c.piece-piece.ensures) at all.steps) (weighs_next g.E.Edit.means c.filled.new.self c.args.found.now c.filled.result _ _ (c.filled.ensures.nearer (shared_nodes c.args.hand.layout.now)));
+  steps = node_steps _ _ _ _ _ _ (rw (c.piece-piece.ensures) at all.steps) (weighs_next g.E.Edit.means c.filled.new.self c.args.found.now c.filled.result _ _ (c.filled.ensures.nearer (shared_nodes (names c.args.hand))));
 }

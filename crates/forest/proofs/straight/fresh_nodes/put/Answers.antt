@@ -2,6 +2,7 @@ use Rattle.std.proofs.Common.{Some, subst, sym, ap, arith, refl}
 use Rattle.forest.specs.CallKinds.{calls}
 use Rattle.forest.specs.Hosts.{HostedWaits}
 use Rattle.forest.specs.StraightUpdate.{Updater, UpdaterFills}
+use Rattle.forest.specs.Hands.{names}
 use Rattle.histories.specs.Common.{Step, Store, Fill as FillKind, Node as NodeOf}
 use Rattle.edits.specs.Pieces.{part_behind}
 use Rattle.forest.proofs.StraightUpdate.{fewer_fills_then, fill_as, fill_steps, fills_on, filling}
@@ -10,7 +11,7 @@ use Rattle.forest.proofs.straight.fresh_nodes.put.Goals.{After-at}
 use Rattle.forest.proofs.straight.fresh_nodes.put.Goals as goal
 
 -- whichever call it is, it waits for the fill of what the piece says
-waits : (g : Over) (c : After-at g) (u : Updater (calls g.S.Shape g.M.Machine c.args.hand.layout.now c.args.hand.number) g.E.Edit.means) → UpdaterFills u c.args.seat.now.me.0.passes c.args.run.now c.args.node.found.now c.args.node.nth (Some c.args.part) → HostedWaits u c.args.seat.now.me.0.passes (filling u c.args.run.now c.args.node.found.now c.args.node.nth c.args.part) record { kind = FillKind; word = NodeOf c.at.result c.args.part; access = Store c.args.value }
+waits : (g : Over) (c : After-at g) (u : Updater (calls g.S.Shape g.M.Machine g.M.CallMachine.left_dealt (names c.args.hand) c.args.hand.number) g.E.Edit.means) → UpdaterFills u c.args.seat.now.me.0.passes c.args.run.now c.args.node.found.now c.args.node.nth (Some c.args.part) → HostedWaits u c.args.seat.now.me.0.passes (filling u c.args.run.now c.args.node.found.now c.args.node.nth c.args.part) record { kind = FillKind; word = NodeOf c.at.result c.args.part; access = Store c.args.value }
 waits g c u x = subst (λ (s : Step). HostedWaits u c.args.seat.now.me.0.passes (filling u c.args.run.now c.args.node.found.now c.args.node.nth c.args.part) s) (fill_as u c.args.run.now c.args.node.found.now c.args.node.nth c.args.part c.args.node.piece.now c.at.result c.args.value c.requires.fresh.1 c.at.ensures c.requires.value) x
 
 pub step_from-requires-clause-waits : goal.step_from-requires-clause-waits

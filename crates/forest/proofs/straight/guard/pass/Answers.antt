@@ -11,13 +11,14 @@ use Rattle.forest.specs.StraightLlx.{LoadsMark}
 use Rattle.forest.specs.StraightUpdate.{Updater, UpdaterBegins}
 use Rattle.forest.specs.StraightWalk.{WalkerGoesDown}
 use Rattle.forest.specs.Traces.{shared_nodes}
+use Rattle.forest.specs.Hands.{names}
 use Rattle.forest.proofs.StraightGuard.{guard_looker, guard_steps, guards_again, is_there, left_again, looks_at_guard, passes_guard, rooted, roots, walker}
 use Rattle.forest.proofs.straight.guard.pass.Given.{Over}
 use Rattle.forest.proofs.straight.guard.pass.Goals.{After-step-head, After-root-root}
 use Rattle.forest.proofs.straight.guard.pass.Goals as goal
 
 -- whichever call begins, its guard's mark is what it loads behind the head of the root
-looks : (g : Over) (c : After-step-head g) (u : Updater (calls g.S.Shape g.M.Machine c.args.hand.layout.now c.args.hand.number) g.E.Edit.means) → UpdaterBegins u c.args.seat.now.me.0.passes c.args.run.now → LoadsMark (guard_looker u c.args.run.now c.args.way c.args.goal c.step-head.result) c.step-head.new.seat.me.0.passes record { 0 = 2 }
+looks : (g : Over) (c : After-step-head g) (u : Updater (calls g.S.Shape g.M.Machine g.M.CallMachine.left_dealt (names c.args.hand) c.args.hand.number) g.E.Edit.means) → UpdaterBegins u c.args.seat.now.me.0.passes c.args.run.now → LoadsMark (guard_looker u c.args.run.now c.args.way c.args.goal c.step-head.result) c.step-head.new.seat.me.0.passes record { 0 = 2 }
 looks g c u x = looks_at_guard u c.args.run.now c.args.way c.args.goal c.step-head.result _ c.requires.guard
     (c.step-head.ensures.told u.call u.first (u.with_run (rooted u c.args.run.now c.args.way c.args.goal)) (u.is_layout, u.is_number)
     (rw c.load-asked.ensures (roots u c.args.run.now c.args.way c.args.goal _ c.requires.goes.0 c.requires.goes.1 x)))
@@ -37,11 +38,11 @@ pub returns-in-Err-clause-ends : goal.returns-in-Err-clause-ends
 returns-in-Err-clause-ends g c = record {
   table = (c.from_place.ensures.table.0 ∙ c.look.ensures.table.0 ∙ c.step-head.ensures.table.0, c.from_place.ensures.table.1 ∙ c.look.ensures.table.1 ∙ c.step-head.ensures.table.1);
   to = λ u x. c.from_place.ensures.to u (rw c.again-at.ensures (guards_again u c.args.run.now c.args.way c.args.goal c.step-head.result _ c.in-Err.marked c.in-Err.scx (c.in-Err.ensures.waits (guard_looker u c.args.run.now c.args.way c.args.goal c.step-head.result) (looks g (goal.at.returns-in-Err-clause-ends g c).After-step-head u x))));
-  steps = left_again g.E.Edit.means c.args.run.now c.args.way c.args.goal c.step-head.result c.in-Err.marked c.in-Err.scx (shared_nodes c.args.hand.layout.now) _ _ _ _ c.requires.goes.0 c.requires.guard c.step-head.ensures.one c.look.ensures.steps (rw c.again-at.ensures at c.from_place.ensures.steps);
+  steps = left_again g.E.Edit.means c.args.run.now c.args.way c.args.goal c.step-head.result c.in-Err.marked c.in-Err.scx (shared_nodes (names c.args.hand)) _ _ _ _ c.requires.goes.0 c.requires.guard c.step-head.ensures.one c.look.ensures.steps (rw c.again-at.ensures at c.from_place.ensures.steps);
 }
 
 -- and behind its guard it goes down from the root
-below : (g : Over) (c : After-root-root g) (u : Updater (calls g.S.Shape g.M.Machine c.args.hand.layout.now c.args.hand.number) g.E.Edit.means) → LoadsMark (guard_looker u c.args.run.now c.args.way c.args.goal c.step-head.result) c.step-head.new.seat.me.0.passes record { 0 = 2 }
+below : (g : Over) (c : After-root-root g) (u : Updater (calls g.S.Shape g.M.Machine g.M.CallMachine.left_dealt (names c.args.hand) c.args.hand.number) g.E.Edit.means) → LoadsMark (guard_looker u c.args.run.now c.args.way c.args.goal c.step-head.result) c.step-head.new.seat.me.0.passes record { 0 = 2 }
     → WalkerGoesDown (walker u (record c.args.run.now { guard = c.in-Ok.snap })) c.look.new.seat.me.0.passes c.args.way c.args.goal c.root-root.result.trail (head_of c.step-head.result).level Left c.root-root.result.turns
 below g c u x = rw c.root-root.ensures (passes_guard u c.args.run.now c.args.way c.args.goal c.step-head.result _ c.in-Ok.snap (c.in-Ok.ensures.snaps (guard_looker u c.args.run.now c.args.way c.args.goal c.step-head.result) x) no_turns)
 
@@ -58,5 +59,5 @@ returns-in-Ok-clause-walks g c = record {
       (is_there u kept c.args.way c.args.goal _ c.descend.result (subst IsPastRoot (sym c.descend.ensures.below.at) tt) (c.descend.ensures.down (walker u kept) (below g at.After-root-root u (looks g at.After-step-head u x))));
   is = rw c.guarded.ensures refl;
   stands = record { place = subst LoadsHead (sym c.descend.ensures.below.at) tt; begins = c.descend.ensures.below.begins };
-  steps = rw c.descend.ensures.below.at (guard_steps (g.E.Edit.means.guard c.args.run.now.edit) _ _ _ _ (room c.args.way (shared_nodes c.args.hand.layout.now)) (head_of c.step-head.result).level (g.E.Edit.means.most_looks c.args.run.now.edit) c.requires.guard c.step-head.ensures.one c.look.ensures.steps c.descend.ensures.one);
+  steps = rw c.descend.ensures.below.at (guard_steps (g.E.Edit.means.guard c.args.run.now.edit) _ _ _ _ (room c.args.way (shared_nodes (names c.args.hand))) (head_of c.step-head.result).level (g.E.Edit.means.most_looks c.args.run.now.edit) c.requires.guard c.step-head.ensures.one c.look.ensures.steps c.descend.ensures.one);
 }

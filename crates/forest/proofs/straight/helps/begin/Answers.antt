@@ -6,13 +6,14 @@ use Rattle.help.specs.declared.state.HelpAt.TheVariants.{Plan as AtPlan, Member 
 use Rattle.forest.specs.StraightHelp.{Helper, LoadsPlan}
 use Rattle.forest.specs.CallKinds.{calls}
 use Rattle.forest.specs.Inside.{InnerWaits}
+use Rattle.forest.specs.Hands.{names}
 use Rattle.forest.proofs.StraightHelp.{to_member}
 use Rattle.forest.proofs.straight.helps.begin.Given.{Over}
 use Rattle.forest.proofs.straight.helps.begin.Goals.{After-read-word}
 use Rattle.forest.proofs.straight.helps.begin.Goals as goal
 
 -- whichever call waited for the plan, it continues with the first node
-at_member : (g : Over) (c : After-read-word g) (k : Helper g.T.Shape.allows (calls g.S.Shape g.M.Machine c.args.hand.layout.now c.args.hand.number)) → LoadsPlan k c.args.seat.now.me.0.passes c.args.run.now → InnerWaits k c.read-word.new.seat.me.0.passes (record c.args.run.now { plan = record { 0 = c.read-word.result }; at = AtMember First }) (settled_load c.args.run.now.scx.0 (Member 0))
+at_member : (g : Over) (c : After-read-word g) (k : Helper g.T.Shape.allows (calls g.S.Shape g.M.Machine g.M.CallMachine.left_dealt (names c.args.hand) c.args.hand.number)) → LoadsPlan k c.args.seat.now.me.0.passes c.args.run.now → InnerWaits k c.read-word.new.seat.me.0.passes (record c.args.run.now { plan = record { 0 = c.read-word.result }; at = AtMember First }) (settled_load c.args.run.now.scx.0 (Member 0))
 at_member g c k x = to_member k _ c.args.run.now c.read-word.result (c.read-word.ensures.told k (record c.args.run.now { at = AtPlan }) x)
 
 pub read-word-requires-clause-waits : goal.read-word-requires-clause-waits

@@ -5,25 +5,26 @@ use Rattle.help.specs.declared.state.HelpAt.TheVariants.{SetFrozen as AtSetFroze
 use Rattle.forest.specs.StraightHelp.{Helper, HelperMarks, SetsFlag}
 use Rattle.forest.specs.CallKinds.{calls}
 use Rattle.forest.specs.Inside.{InnerWaits}
+use Rattle.forest.specs.Hands.{names}
 use Rattle.forest.proofs.StraightHelp.{no_marks, to_old, to_update, to_commit}
 use Rattle.forest.proofs.straight.helps.commit.Given.{Over}
 use Rattle.forest.proofs.straight.helps.commit.Goals.{After-act_on, After-mark_all, After-read-new, After-read-old, After-act}
 use Rattle.forest.proofs.straight.helps.commit.Goals as goal
 
 -- whichever call waited to set the flag, it goes from place to place
-at_marks : (g : Over) (c : After-act_on g) (k : Helper g.T.Shape.allows (calls g.S.Shape g.M.Machine c.args.hand.layout.now c.args.hand.number)) → SetsFlag k c.args.seat.now.me.0.passes c.args.run.now → HelperMarks k c.act_on.new.seat.me.0.passes c.args.run.now 0
+at_marks : (g : Over) (c : After-act_on g) (k : Helper g.T.Shape.allows (calls g.S.Shape g.M.Machine g.M.CallMachine.left_dealt (names c.args.hand) c.args.hand.number)) → SetsFlag k c.args.seat.now.me.0.passes c.args.run.now → HelperMarks k c.act_on.new.seat.me.0.passes c.args.run.now 0
 at_marks g c k x = no_marks k _ c.args.run.now c.act_on.result (c.act_on.ensures.told k (record c.args.run.now { at = AtSetFrozen }) x)
 
-at_new : (g : Over) (c : After-mark_all g) (k : Helper g.T.Shape.allows (calls g.S.Shape g.M.Machine c.args.hand.layout.now c.args.hand.number)) → SetsFlag k c.args.seat.now.me.0.passes c.args.run.now → InnerWaits k c.mark_all.new.seat.me.0.passes (record c.args.run.now { at = AtNew }) (settled_load c.args.run.now.scx.0 New)
+at_new : (g : Over) (c : After-mark_all g) (k : Helper g.T.Shape.allows (calls g.S.Shape g.M.Machine g.M.CallMachine.left_dealt (names c.args.hand) c.args.hand.number)) → SetsFlag k c.args.seat.now.me.0.passes c.args.run.now → InnerWaits k c.mark_all.new.seat.me.0.passes (record c.args.run.now { at = AtNew }) (settled_load c.args.run.now.scx.0 New)
 at_new g c k x = c.mark_all.ensures.to k (at_marks g (goal.at.mark_all-requires-clause-marks g c.before).After-act_on k x)
 
-at_old : (g : Over) (c : After-read-new g) (k : Helper g.T.Shape.allows (calls g.S.Shape g.M.Machine c.args.hand.layout.now c.args.hand.number)) → SetsFlag k c.args.seat.now.me.0.passes c.args.run.now → InnerWaits k c.read-new.new.seat.me.0.passes (record c.args.run.now { at = AtOld c.read-new.result }) (settled_load c.args.run.now.scx.0 Old)
+at_old : (g : Over) (c : After-read-new g) (k : Helper g.T.Shape.allows (calls g.S.Shape g.M.Machine g.M.CallMachine.left_dealt (names c.args.hand) c.args.hand.number)) → SetsFlag k c.args.seat.now.me.0.passes c.args.run.now → InnerWaits k c.read-new.new.seat.me.0.passes (record c.args.run.now { at = AtOld c.read-new.result }) (settled_load c.args.run.now.scx.0 Old)
 at_old g c k x = to_old k _ c.args.run.now c.read-new.result (c.read-new.ensures.told k (record c.args.run.now { at = AtNew }) (at_new g (goal.at.read-new-requires-clause-waits g c.before).After-mark_all k x))
 
-at_update : (g : Over) (c : After-read-old g) (k : Helper g.T.Shape.allows (calls g.S.Shape g.M.Machine c.args.hand.layout.now c.args.hand.number)) → SetsFlag k c.args.seat.now.me.0.passes c.args.run.now → let m = c.args.run.now in InnerWaits k c.read-old.new.seat.me.0.passes (record m { at = AtUpdate }) record { kind = Update; word = child (node_at m.members (field_index_of m.plan.0)) (side_of m.plan.0); access = Exchange c.read-old.result c.read-new.result }
+at_update : (g : Over) (c : After-read-old g) (k : Helper g.T.Shape.allows (calls g.S.Shape g.M.Machine g.M.CallMachine.left_dealt (names c.args.hand) c.args.hand.number)) → SetsFlag k c.args.seat.now.me.0.passes c.args.run.now → let m = c.args.run.now in InnerWaits k c.read-old.new.seat.me.0.passes (record m { at = AtUpdate }) record { kind = Update; word = child (node_at m.members (field_index_of m.plan.0)) (side_of m.plan.0); access = Exchange c.read-old.result c.read-new.result }
 at_update g c k x = to_update k _ c.args.run.now c.read-new.result c.read-old.result (c.read-old.ensures.told k (record c.args.run.now { at = AtOld c.read-new.result }) (at_old g (goal.at.read-old-requires-clause-waits g c.before).After-read-new k x))
 
-at_commit : (g : Over) (c : After-act g) (k : Helper g.T.Shape.allows (calls g.S.Shape g.M.Machine c.args.hand.layout.now c.args.hand.number)) → (let m = c.args.run.now in InnerWaits k c.read-old.new.seat.me.0.passes (record m { at = AtUpdate }) record { kind = Update; word = child (node_at m.members (field_index_of m.plan.0)) (side_of m.plan.0); access = Exchange c.read-old.result c.read-new.result }) → let m = c.args.run.now in InnerWaits k c.act.new.seat.me.0.passes (record m { at = AtCommit }) record { kind = Commit; word = state m.scx.0; access = Store 1 }
+at_commit : (g : Over) (c : After-act g) (k : Helper g.T.Shape.allows (calls g.S.Shape g.M.Machine g.M.CallMachine.left_dealt (names c.args.hand) c.args.hand.number)) → (let m = c.args.run.now in InnerWaits k c.read-old.new.seat.me.0.passes (record m { at = AtUpdate }) record { kind = Update; word = child (node_at m.members (field_index_of m.plan.0)) (side_of m.plan.0); access = Exchange c.read-old.result c.read-new.result }) → let m = c.args.run.now in InnerWaits k c.act.new.seat.me.0.passes (record m { at = AtCommit }) record { kind = Commit; word = state m.scx.0; access = Store 1 }
 at_commit g c k y = to_commit k _ c.args.run.now c.act.result (c.act.ensures.told k (record c.args.run.now { at = AtUpdate }) (rw (c.index.ensures.value, c.at.ensures, c.side.ensures) y))
 
 pub act_on-requires-clause-waits : goal.act_on-requires-clause-waits

@@ -6,6 +6,7 @@ use Rattle.help.specs.declared.state.HelpRun.{HelpRun}
 use Rattle.forest.specs.StraightHelp.{Helper, LoadsMember}
 use Rattle.forest.specs.CallKinds.{calls}
 use Rattle.forest.specs.Inside.{InnerIsTold, InnerWaits}
+use Rattle.forest.specs.Hands.{names}
 use Rattle.forest.proofs.StraightHelp.{to_seen, to_freeze, to_next, to_set_frozen, to_all_frozen}
 use Rattle.forest.proofs.straight.helps.freeze.Given.{Over}
 use Rattle.forest.proofs.straight.helps.freeze.Goals.{After-read-seen, After-act-found}
@@ -16,14 +17,14 @@ abbrev with_node : HelpRun → ℕ → ℕ → HelpRun
 with_node run place node = record run { members = slice_set run.members place record { 0 = node } }
 
 -- whichever call waited for the node, it goes from load to load, and to the exchange
-at_freeze : (g : Over) (c : After-read-seen g) (k : Helper g.T.Shape.allows (calls g.S.Shape g.M.Machine c.args.hand.layout.now c.args.hand.number)) → LoadsMember k c.args.seat.now.me.0.passes c.args.run.now c.args.j → let m = (with_node c.args.run.now (member_index c.args.j) c.read.result) in InnerWaits k c.read-seen.new.seat.me.0.passes (record m { at = AtFreeze c.args.j c.read-seen.result }) record { kind = Freeze; word = info c.read.result; access = Exchange c.read-seen.result m.scx.0 }
+at_freeze : (g : Over) (c : After-read-seen g) (k : Helper g.T.Shape.allows (calls g.S.Shape g.M.Machine g.M.CallMachine.left_dealt (names c.args.hand) c.args.hand.number)) → LoadsMember k c.args.seat.now.me.0.passes c.args.run.now c.args.j → let m = (with_node c.args.run.now (member_index c.args.j) c.read.result) in InnerWaits k c.read-seen.new.seat.me.0.passes (record m { at = AtFreeze c.args.j c.read-seen.result }) record { kind = Freeze; word = info c.read.result; access = Exchange c.read-seen.result m.scx.0 }
 at_freeze g c k x = let m = (with_node c.args.run.now (member_index c.args.j) c.read.result) in
     let kept : node_at m.members (member_index c.args.j) ≡ c.read.result = ap (λ (n : NodeNo). n.0) (get_or-set_same c.args.run.now.members (member_index c.args.j) record { 0 = c.read.result } record { 0 = 0 } (let i = c.index.ensures.small in let e = c.index.ensures.value in omega arith)) in
     subst (λ (n : ℕ). InnerWaits k c.read-seen.new.seat.me.0.passes (record m { at = AtFreeze c.args.j c.read-seen.result }) record { kind = Freeze; word = info n; access = Exchange c.read-seen.result m.scx.0 }) kept (to_freeze k _ m c.args.j c.read-seen.result (c.read-seen.ensures.told k (record m { at = AtSeen c.args.j }) (rw c.number-number.ensures.value
     (to_seen k _ c.args.run.now c.args.j c.read.result (let i = c.index.ensures.small in let e = c.index.ensures.value in omega arith) (c.read.ensures.told k (record c.args.run.now { at = AtMember c.args.j }) (rw c.number-number.ensures.value x))))))
 
 -- the exchange is made
-found : (g : Over) (c : After-act-found g) (k : Helper g.T.Shape.allows (calls g.S.Shape g.M.Machine c.args.hand.layout.now c.args.hand.number)) → LoadsMember k c.args.seat.now.me.0.passes c.args.run.now c.args.j → InnerIsTold k c.act-found.new.seat.me.0.passes (record (with_node c.args.run.now (member_index c.args.j) c.read.result) { at = AtFreeze c.args.j c.read-seen.result }) c.act-found.result
+found : (g : Over) (c : After-act-found g) (k : Helper g.T.Shape.allows (calls g.S.Shape g.M.Machine g.M.CallMachine.left_dealt (names c.args.hand) c.args.hand.number)) → LoadsMember k c.args.seat.now.me.0.passes c.args.run.now c.args.j → InnerIsTold k c.act-found.new.seat.me.0.passes (record (with_node c.args.run.now (member_index c.args.j) c.read.result) { at = AtFreeze c.args.j c.read-seen.result }) c.act-found.result
 found g c k x = let m = (with_node c.args.run.now (member_index c.args.j) c.read.result) in
     c.act-found.ensures.told k (record m { at = AtFreeze c.args.j c.read-seen.result }) (at_freeze g (goal.at.act-found-requires-clause-waits g c.before).After-read-seen k x)
 

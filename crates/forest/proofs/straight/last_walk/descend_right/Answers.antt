@@ -3,6 +3,7 @@ use Rattle.histories.specs.Common.{Right, head_of}
 use Rattle.forest.specs.StraightWalk.{Walker, WalkerGoesDown, WalkerIsTold}
 use Rattle.forest.specs.Traces.{shared_nodes}
 use Rattle.forest.specs.CallKinds.{calls}
+use Rattle.forest.specs.Hands.{names}
 use Rattle.template.specs.Common.{End}
 use Rattle.template.specs.Walk.Places.{way_at, LoadsHead}
 use Rattle.template.specs.Walk.Steps.{room, walk_left}
@@ -12,17 +13,17 @@ use Rattle.forest.proofs.straight.last_walk.descend_right.Goals.{After-goes_righ
 use Rattle.forest.proofs.straight.last_walk.descend_right.Goals as goal
 
 -- whichever call it is, it goes right
-down : (g : Over) (c : After-goes_right g) → c.goes_right.result ≡ true → (w : Walker (calls g.S.Shape g.M.Machine c.args.hand.layout.now c.args.hand.number))
+down : (g : Over) (c : After-goes_right g) → c.goes_right.result ≡ true → (w : Walker (calls g.S.Shape g.M.Machine g.M.CallMachine.left_dealt (names c.args.hand) c.args.hand.number))
     → WalkerIsTold w c.args.seat.now.me.0.passes (way_at c.args.way (End Right) c.args.first.trail c.args.first.at) c.args.first.turns c.args.head
     → WalkerGoesDown w c.loop-way.seat.me.0.passes c.args.way (End Right) c.loop-way.place.trail (head_of c.loop-way.word).level Right c.loop-way.place.turns
 down g c known w x = to_known w _ c.args.way (End Right) c.loop-way.place.trail c.loop-way.place.turns c.loop-way.place.at c.loop-way.word (head_of c.loop-way.word) c.loop-way.invariant.loads refl Right (c.goes_right.ensures.fork known) refl (c.goes_right.ensures.right known) (c.loop-way.invariant.told w x)
 
 -- a node's head, and the child that is loaded after it, take at most three steps
-less : (g : Over) (c : After-descend-place g) → 3 + walk_left c.descend-place.result.at (room c.args.way (shared_nodes c.args.hand.layout.now)) ≤ walk_left c.loop-way.place.at (room c.args.way (shared_nodes c.args.hand.layout.now))
+less : (g : Over) (c : After-descend-place g) → 3 + walk_left c.descend-place.result.at (room c.args.way (shared_nodes (names c.args.hand))) ≤ walk_left c.loop-way.place.at (room c.args.way (shared_nodes (names c.args.hand)))
 less g c =
     let r = c.requires.told in
-    subst (λ p. 3 + walk_left p (room c.args.way (shared_nodes c.args.hand.layout.now)) ≤ walk_left c.loop-way.place.at (room c.args.way (shared_nodes c.args.hand.layout.now))) (sym c.descend-place.ensures.below.at)
-    (fewer c.loop-way.place.at c.loop-way.word (room c.args.way (shared_nodes c.args.hand.layout.now)) (head_of c.loop-way.word) c.loop-way.invariant.loads refl (fits r.0 _ (way_at c.args.way (End Right) c.loop-way.place.trail c.loop-way.place.at) c.loop-way.place.turns c.loop-way.word (c.loop-way.invariant.told r.0 r.1)) c.descend-place.ensures.below.deep)
+    subst (λ p. 3 + walk_left p (room c.args.way (shared_nodes (names c.args.hand))) ≤ walk_left c.loop-way.place.at (room c.args.way (shared_nodes (names c.args.hand)))) (sym c.descend-place.ensures.below.at)
+    (fewer c.loop-way.place.at c.loop-way.word (room c.args.way (shared_nodes (names c.args.hand))) (head_of c.loop-way.word) c.loop-way.invariant.loads refl (fits r.0 _ (way_at c.args.way (End Right) c.loop-way.place.trail c.loop-way.place.at) c.loop-way.place.turns c.loop-way.word (c.loop-way.invariant.told r.0 r.1)) c.descend-place.ensures.below.deep)
 
 pub loop-way-init : goal.loop-way-init
 loop-way-init g c = record { here = (refl, refl); loads = c.requires.stands.place; start = c.requires.stands.begins; nearer = omega arith; steps = omega arith; told = λ w x. x }

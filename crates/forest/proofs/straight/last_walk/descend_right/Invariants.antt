@@ -1,8 +1,9 @@
 use Rattle.std.proofs.Common.{◌≡◌, ◌+◌, ◌≤◌}
-use Rattle.arena.specs.Layout.{node_start}
 use Rattle.forest.specs.StraightWalk.{Walker, WalkerIsTold}
 use Rattle.forest.specs.Traces.{seat_steps, shared_nodes}
 use Rattle.forest.specs.CallKinds.{calls}
+use Rattle.forest.specs.Hands.{hand_slots, names}
+use Rattle.forest.specs.Slotted.{node_begins}
 use Rattle.histories.specs.Common.{Right}
 use Rattle.template.specs.Common.{walk_left, End}
 use Rattle.template.specs.Walk.Places.{way_at, LoadsHead}
@@ -13,13 +14,13 @@ abbrev pub invariant-loop-way : goal.invariant-loop-way
 invariant-loop-way g l = record {
   here : (l.seat.table_id ≡ l.fn.seat.table_id) × (l.seat.me.1 ≡ l.fn.seat.me.1);
   loads : LoadsHead l.place.at;
-  start : l.place.start ≡ node_start l.fn.hand.layout.now l.place.trail.node;
-  nearer : walk_left l.place.at (room l.way (shared_nodes l.fn.hand.layout.now)) ≤ walk_left l.fn.first.at (room l.way (shared_nodes l.fn.hand.layout.now));
-  steps : seat_steps l.seat.me.0.passes + walk_left l.place.at (room l.way (shared_nodes l.fn.hand.layout.now)) ≤ seat_steps l.fn.seat.me.0.passes + walk_left l.fn.first.at (room l.way (shared_nodes l.fn.hand.layout.now));
-  told : (w : Walker (calls g.S.Shape g.M.Machine l.fn.hand.layout.now l.fn.hand.number))
+  start : l.place.start ≡ node_begins (hand_slots l.fn.hand) l.place.trail.node;
+  nearer : walk_left l.place.at (room l.way (shared_nodes (names l.fn.hand))) ≤ walk_left l.fn.first.at (room l.way (shared_nodes (names l.fn.hand)));
+  steps : seat_steps l.seat.me.0.passes + walk_left l.place.at (room l.way (shared_nodes (names l.fn.hand))) ≤ seat_steps l.fn.seat.me.0.passes + walk_left l.fn.first.at (room l.way (shared_nodes (names l.fn.hand)));
+  told : (w : Walker (calls g.S.Shape g.M.Machine g.M.CallMachine.left_dealt (names l.fn.hand) l.fn.hand.number))
       → WalkerIsTold w l.fn.seat.me.0.passes (way_at l.way (End Right) l.fn.first.trail l.fn.first.at) l.fn.first.turns l.fn.head
       → WalkerIsTold w l.seat.me.0.passes (way_at l.way (End Right) l.place.trail l.place.at) l.place.turns l.word;
 }
 
 abbrev pub decreases-loop-way : goal.decreases-loop-way
-decreases-loop-way g l = walk_left l.place.at (room l.way (shared_nodes l.fn.hand.layout.now))
+decreases-loop-way g l = walk_left l.place.at (room l.way (shared_nodes (names l.fn.hand)))

@@ -6,6 +6,7 @@ use Rattle.template.specs.Walk.Places.{way_at}
 use Rattle.template.specs.declared.walk.WalkAt.TheVariants.{More, Pair}
 use Rattle.forest.specs.CallKinds.{calls}
 use Rattle.forest.specs.StraightWalk.{Walker, WalkerIsTold, WalkerWaits}
+use Rattle.forest.specs.Hands.{names}
 use Rattle.forest.proofs.StraightWalk.{to_first}
 use Rattle.forest.proofs.straight.last_walk.end_at.Given.{Over}
 use Rattle.forest.proofs.straight.last_walk.end_at.Goals.{After-read-key}
@@ -21,7 +22,7 @@ read-key-requires-clause-waits g c = let r = c.requires.told in (
 )
 
 -- whichever call it is, it has got the key in this slot
-told : (g : Over) (c : After-read-key g) (w : Walker (calls g.S.Shape g.M.Machine c.args.hand.layout.now c.args.hand.number)) (turn : LastTurns)
+told : (g : Over) (c : After-read-key g) (w : Walker (calls g.S.Shape g.M.Machine g.M.CallMachine.left_dealt (names c.args.hand) c.args.hand.number)) (turn : LastTurns)
     → WalkerIsTold w c.args.seat.now.me.0.passes (way_at c.args.way (End c.args.side) c.args.trail (More c.args.head)) turn c.args.more
     → WalkerIsTold w c.read-key.new.seat.me.0.passes (way_at c.args.way (End c.args.side) c.args.trail (Pair c.args.head c.args.more c.args.slot)) turn c.read-key.result
 told g c w turn x = c.read-key.ensures.told w (way_at c.args.way (End c.args.side) c.args.trail (Pair c.args.head c.args.more c.args.slot)) turn

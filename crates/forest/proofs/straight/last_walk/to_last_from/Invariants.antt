@@ -2,10 +2,11 @@ use Rattle.histories.specs.Common.{Right}
 use Rattle.template.specs.Common.{End}
 use Rattle.std.proofs.Common.{◌≡◌, ◌+◌, ◌≤◌, suc}
 use Rattle.histories.specs.Common.{LoadSettled, Settled, Head, node}
-use Rattle.arena.specs.Layout.{node_start}
 use Rattle.forest.specs.StraightWalk.{Walker, WalkerWaits, WalkerIsAt}
 use Rattle.forest.specs.Traces.{seat_steps, shared_nodes}
 use Rattle.forest.specs.CallKinds.{calls}
+use Rattle.forest.specs.Hands.{hand_slots, names}
+use Rattle.forest.specs.Slotted.{node_begins}
 use Rattle.template.specs.Common.{load, walk_left}
 use Rattle.template.specs.Walk.Places.{way_at, LoadsHead}
 use Rattle.template.specs.Walk.Steps.{room}
@@ -15,12 +16,12 @@ abbrev pub invariant-loop-side : goal.invariant-loop-side
 invariant-loop-side g l = record {
   here : (l.seat.table_id ≡ l.fn.seat.table_id) × (l.seat.me.1 ≡ l.fn.seat.me.1);
   loads : LoadsHead l.place.at;
-  start : l.place.start ≡ node_start l.fn.hand.layout.now l.place.trail.node;
-  steps : seat_steps l.seat.me.0.passes + suc (walk_left l.place.at (room l.way (shared_nodes l.fn.hand.layout.now))) ≤ seat_steps l.fn.seat.me.0.passes + suc (walk_left l.fn.first.at (room l.way (shared_nodes l.fn.hand.layout.now)));
-  waits : (w : Walker (calls g.S.Shape g.M.Machine l.fn.hand.layout.now l.fn.hand.number))
+  start : l.place.start ≡ node_begins (hand_slots l.fn.hand) l.place.trail.node;
+  steps : seat_steps l.seat.me.0.passes + suc (walk_left l.place.at (room l.way (shared_nodes (names l.fn.hand)))) ≤ seat_steps l.fn.seat.me.0.passes + suc (walk_left l.fn.first.at (room l.way (shared_nodes (names l.fn.hand))));
+  waits : (w : Walker (calls g.S.Shape g.M.Machine g.M.CallMachine.left_dealt (names l.fn.hand) l.fn.hand.number))
       → WalkerIsAt w l.fn.seat.me.0.passes l.way (End Right) l.fn.first
       → WalkerWaits w l.seat.me.0.passes (way_at l.way (End Right) l.place.trail l.place.at) l.place.turns (load LoadSettled (node l.place.trail.node.0 (Settled Head)));
 }
 
 abbrev pub decreases-loop-side : goal.decreases-loop-side
-decreases-loop-side g l = walk_left l.place.at (room l.way (shared_nodes l.fn.hand.layout.now))
+decreases-loop-side g l = walk_left l.place.at (room l.way (shared_nodes (names l.fn.hand)))

@@ -2,6 +2,7 @@ use Rattle.std.proofs.Common.{refl}
 use Rattle.histories.specs.Common.{LoadSettled, Settled, Head as HeadWord, head_of, node}
 use Rattle.forest.specs.StraightWalk.{Walker, WalkerGoesDown, WalkerIsTold, WalkerWaits}
 use Rattle.forest.specs.CallKinds.{calls}
+use Rattle.forest.specs.Hands.{names}
 use Rattle.prims.specs.Llx.Known.{load}
 use Rattle.template.specs.Walk.Places.{way_at, trail_below}
 use Rattle.template.specs.declared.walk.WalkAt.TheVariants.{Child, Head}
@@ -12,13 +13,13 @@ use Rattle.forest.proofs.straight.node.descend.Goals.{After-read-child}
 use Rattle.forest.proofs.straight.node.descend.Goals as goal
 
 -- whichever call it is, it has got the child
-told : (g : Over) (c : After-read-child g) (w : Walker (calls g.S.Shape g.M.Machine c.args.hand.layout.now c.args.hand.number))
+told : (g : Over) (c : After-read-child g) (w : Walker (calls g.S.Shape g.M.Machine g.M.CallMachine.left_dealt (names c.args.hand) c.args.hand.number))
     → WalkerGoesDown w c.args.seat.now.me.0.passes c.args.way c.args.goal c.args.place.trail (head_of c.args.word).level c.args.side c.args.place.turns
     → WalkerIsTold w c.read-child.new.seat.me.0.passes (way_at c.args.way c.args.goal c.args.place.trail (Child (head_of c.args.word).level c.args.side)) c.args.place.turns c.read-child.result
 told g c w x = c.read-child.ensures.told w (way_at c.args.way c.args.goal c.args.place.trail (Child (head_of c.args.word).level c.args.side)) c.args.place.turns x
 
 -- so that the head of the child is what the walk waits for, wherever its words begin
-waits_below : (g : Over) (c : After-read-child g) (w : Walker (calls g.S.Shape g.M.Machine c.args.hand.layout.now c.args.hand.number))
+waits_below : (g : Over) (c : After-read-child g) (w : Walker (calls g.S.Shape g.M.Machine g.M.CallMachine.left_dealt (names c.args.hand) c.args.hand.number))
     → WalkerGoesDown w c.args.seat.now.me.0.passes c.args.way c.args.goal c.args.place.trail (head_of c.args.word).level c.args.side c.args.place.turns
     → WalkerWaits w c.read-child.new.seat.me.0.passes (way_at c.args.way c.args.goal (trail_below c.args.place.trail c.args.side c.read-child.result) (Head (head_of c.args.word).level)) c.args.place.turns (load LoadSettled (node c.read-child.result (Settled HeadWord)))
 waits_below g c w x = to_head w _ c.args.way c.args.goal c.args.place.trail c.args.place.turns (head_of c.args.word).level c.args.side c.read-child.result (told g c w x)

@@ -3,13 +3,14 @@ use Rattle.template.specs.declared.walk.WalkAt.TheVariants.{Pair, Value, High}
 use Rattle.order.specs.declared.last_turns.LastTurns.{LastTurns}
 use Rattle.forest.specs.StraightWalk.{Walker, WalkerIsTold}
 use Rattle.forest.specs.CallKinds.{calls}
+use Rattle.forest.specs.Hands.{names}
 use Rattle.forest.proofs.StraightWalk.{to_value, to_high, finds_value}
 use Rattle.forest.proofs.straight.node.end_with.Given.{Over}
 use Rattle.forest.proofs.straight.node.end_with.Goals.{After-read-low}
 use Rattle.forest.proofs.straight.node.end_with.Goals as goal
 
 -- whichever call it is, it has got the value
-told_low : (g : Over) (c : After-read-low g) (w : Walker (calls g.S.Shape g.M.Machine c.args.hand.layout.now c.args.hand.number)) (turn : LastTurns)
+told_low : (g : Over) (c : After-read-low g) (w : Walker (calls g.S.Shape g.M.Machine g.M.CallMachine.left_dealt (names c.args.hand) c.args.hand.number)) (turn : LastTurns)
     → WalkerIsTold w c.args.seat.now.me.0.passes (way_at c.args.way c.args.goal c.args.trail (Pair c.args.head c.args.more c.args.slot)) turn c.args.key
     → WalkerIsTold w c.read-low.new.seat.me.0.passes (way_at c.args.way c.args.goal c.args.trail (Value c.args.head c.args.more c.args.slot c.args.key)) turn c.read-low.result
 told_low g c w turn x = c.read-low.ensures.told w (way_at c.args.way c.args.goal c.args.trail (Value c.args.head c.args.more c.args.slot c.args.key)) turn (to_value w _ c.args.way c.args.goal c.args.trail turn c.args.head c.args.more c.args.slot c.args.key c.requires.asked x)

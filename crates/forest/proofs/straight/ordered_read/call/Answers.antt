@@ -6,6 +6,7 @@ use Rattle.order.specs.declared.read.ReadNext.TheVariants.{Look as LookNext}
 use Rattle.forest.specs.Leads.{steps_made}
 use Rattle.forest.specs.StraightReads.{at_root}
 use Rattle.forest.specs.Traces.{shared_nodes}
+use Rattle.forest.specs.Hands.{names}
 use Rattle.forest.proofs.StraightReads.{ends_at_once, root_in_try, roots, walk_in_try, walk_looks, walker, walks}
 use Rattle.forest.proofs.StraightWalk.{leaf_steps}
 use Rattle.forest.proofs.straight.ordered_read.call.Given.{Over}
@@ -27,8 +28,8 @@ returns-in-Walk-clause-leads g c = record {
   table = (c.go_on.ensures.table.0 ∙ c.to_goal.ensures.table.0, c.go_on.ensures.table.1 ∙ c.to_goal.ensures.table.1);
   to = λ r x. c.go_on.ensures.to r (rw (c.children-children.ensures, c.to-node.ensures) (walk_looks r c.start.new.self c.in-Walk.key c.in-Walk.side c.in-Walk.ensures.begins _ c.to_goal.result.0 c.to_goal.result.1 (rw (is_way g (goal.at.returns-in-Walk-clause-leads g c).After-leaf_way-way) at (c.to_goal.ensures.finds (walker r c.start.new.self c.in-Walk.key c.in-Walk.side c.in-Walk.ensures.begins) (rw (is_way g (goal.at.returns-in-Walk-clause-leads g c).After-leaf_way-way) (walks r c.start.new.self c.in-Walk.key c.in-Walk.side c.in-Walk.ensures.begins _ c.args.run.now c.start.ensures.same c.start.ensures.tries c.start.ensures.empty x))))));
   steps = (let b = c.requires.begins in walk_in_try g.R.Read.means c.args.run.now c.start.new.self c.start.ensures.same c.start.ensures.tries c.start.ensures.empty (b.0.tells c.args.run.now _ _ b.1.so.0).1 _ _ _ c.children-children.result c.to-node.result c.in-Walk.key _ c.in-Walk.side (c.in-Walk.ensures.nearer _)
-      (leaf_steps c.args.run.now.trie _ _ _ (shared_nodes c.args.hand.layout.now) (is_way g (goal.at.returns-in-Walk-clause-leads g c).After-leaf_way-way ∙ ap leaf_way c.start.ensures.same.4) c.to_goal.ensures.steps)
-      (subst (λ t. steps_made c.go_on.new.seat ≤ steps_made c.to_goal.new.seat + suc (read_left g.R.Read.means (placed c.start.new.self (LookNext c.children-children.result 0 c.to-node.result)) (nodes_by t (shared_nodes c.args.hand.layout.now)))) c.start.ensures.same.4 c.go_on.ensures.steps));
+      (leaf_steps c.args.run.now.trie _ _ _ (shared_nodes (names c.args.hand)) (is_way g (goal.at.returns-in-Walk-clause-leads g c).After-leaf_way-way ∙ ap leaf_way c.start.ensures.same.4) c.to_goal.ensures.steps)
+      (subst (λ t. steps_made c.go_on.new.seat ≤ steps_made c.to_goal.new.seat + suc (read_left g.R.Read.means (placed c.start.new.self (LookNext c.children-children.result 0 c.to-node.result)) (nodes_by t (shared_nodes (names c.args.hand))))) c.start.ensures.same.4 c.go_on.ensures.steps));
 }
 
 pub returns-in-Walk-clause-nothing : goal.returns-in-Walk-clause-nothing
@@ -42,7 +43,7 @@ returns-in-Root-clause-leads g c = record {
   table = c.from_root.ensures.table;
   to = λ r x. c.from_root.ensures.to r (roots r _ c.args.run.now c.start.new.self c.start.ensures.same c.start.ensures.tries c.start.ensures.empty c.in-Root.ensures.begins x);
   steps = (let b = c.requires.begins in root_in_try g.R.Read.means c.args.run.now c.start.new.self c.start.ensures.same c.start.ensures.tries c.start.ensures.empty (b.0.tells c.args.run.now _ _ b.1.so.0).1 _ _ _ (c.in-Root.ensures.nearer _)
-      (subst (λ t. steps_made c.from_root.new.seat ≤ steps_made c.args.seat.now + suc (read_left g.R.Read.means (at_root c.start.new.self) (nodes_by t (shared_nodes c.args.hand.layout.now)))) c.start.ensures.same.4 c.from_root.ensures.steps));
+      (subst (λ t. steps_made c.from_root.new.seat ≤ steps_made c.args.seat.now + suc (read_left g.R.Read.means (at_root c.start.new.self) (nodes_by t (shared_nodes (names c.args.hand))))) c.start.ensures.same.4 c.from_root.ensures.steps));
 }
 
 pub returns-in-Root-clause-nothing : goal.returns-in-Root-clause-nothing

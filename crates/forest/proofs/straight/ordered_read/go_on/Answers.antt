@@ -8,7 +8,7 @@ use Rattle.forest.proofs.straight.ordered_read.go_on.Goals.{In-Load-Head}
 use Rattle.forest.proofs.straight.ordered_read.go_on.Goals as goal
 
 -- it continues with the head of a node
-at_node : (g : Over) (c : In-Load-Head g) → ReadGoesOn g.S.Shape g.M.Machine g.R.Read.means c.args.hand 0 c.args.seat.now c.args.run.now (Ok c.args.first) c.loop-next.seat c.loop-next.run (Ok (Load (Head c.in-Load-Head.above c.in-Load-Head.node)))
+at_node : (g : Over) (c : In-Load-Head g) → ReadGoesOn g.S.Shape g.M.Machine g.M.CallMachine.left_dealt g.R.Read.means c.args.hand 0 c.args.seat.now c.args.run.now (Ok c.args.first) c.loop-next.seat c.loop-next.run (Ok (Load (Head c.in-Load-Head.above c.in-Load-Head.node)))
 at_node g c = reads_on c.loop-next.invariant.goes_on (reads_as (c.in-Load-Head.is ∙ ap Load (rw c.in-Load-Head.is at c.in-Load-Head.field-0-is)))
 
 pub look_next-requires-clause-waits : goal.look_next-requires-clause-waits

@@ -3,6 +3,7 @@ use Rattle.template.specs.Balance.{nodes_by}
 use Rattle.order.specs.Places.{placed}
 use Rattle.order.specs.declared.read.ReadNext.TheVariants.{Load}
 use Rattle.forest.specs.Traces.{shared_nodes}
+use Rattle.forest.specs.Hands.{names}
 use Rattle.order.specs.Steps.{read_left}
 use Rattle.forest.proofs.StraightReads.{load_goes_on, load_last, load_lighter, one_step}
 use Rattle.forest.proofs.straight.ordered_read.load_on.Given.{Over}
@@ -13,7 +14,7 @@ pub read-value-requires-clause-waits : goal.read-value-requires-clause-waits
 read-value-requires-clause-waits g c = let w = c.requires.waits in (w.0, placed c.args.run.now (Load (g.L.KnownLoad.load c.args.load.now)), rw c.word.ensures w.1)
 
 -- after it there are fewer steps left
-lighter : (g : Over) (c : In-Ok g) → read_left g.R.Read.means (placed c.found.new.run c.in-Ok.next) (nodes_by c.found.new.run.trie (shared_nodes c.args.hand.layout.now)) < read_left g.R.Read.means (placed c.args.run.now (Load (g.L.KnownLoad.load c.args.load.now))) (nodes_by c.args.run.now.trie (shared_nodes c.args.hand.layout.now))
+lighter : (g : Over) (c : In-Ok g) → read_left g.R.Read.means (placed c.found.new.run c.in-Ok.next) (nodes_by c.found.new.run.trie (shared_nodes (names c.args.hand))) < read_left g.R.Read.means (placed c.args.run.now (Load (g.L.KnownLoad.load c.args.load.now))) (nodes_by c.args.run.now.trie (shared_nodes (names c.args.hand)))
 lighter g c = let w = c.requires.waits in load_lighter w.0 c.args.run.now c.found.new.run (g.L.KnownLoad.load c.args.load.now) c.found.ensures.same c.found.ensures.tries _ c.read-value.result c.in-Ok.next (rw c.in-Ok.is at c.found.ensures.goes_on) (rw c.in-Ok.is at c.found.ensures.nearer) (c.read-value.ensures.told w.0 (placed c.args.run.now (Load (g.L.KnownLoad.load c.args.load.now))) (rw c.word.ensures w.1))
 
 pub returns-in-Ok : goal.returns-in-Ok

@@ -4,6 +4,7 @@ use Rattle.edits.specs.Next.{half_told, placed, told}
 use Rattle.edits.specs.declared.update.Next.TheVariants.{Read}
 use Rattle.edits.proofs.Lemmas.{key_then_value, told_nearer, value_then_high}
 use Rattle.forest.specs.Traces.{shared_nodes}
+use Rattle.forest.specs.Hands.{names}
 use Rattle.forest.proofs.StraightUpdate.{pair_steps, reads_next, reads_on, waits_high, waits_value}
 use Rattle.forest.proofs.straight.reads.read_pair.Goals as goal
 
@@ -42,7 +43,7 @@ returns-clause-goes_on g c = record {
   later = (let one = c.step-key.ensures.one in let two = c.step-low.ensures.one in let three = c.step-high.ensures.one in omega (arith, one, two, three));
   steps = (
       let r = c.requires.tries in
-      let nodes = shared_nodes c.args.hand.layout.now in
+      let nodes = shared_nodes (names c.args.hand) in
       let known = reads_next r.0 _ c.args.run.now c.args.found.now c.args.node (Key c.args.slot) r.1 in
       let is_key = known.1 in
       let is_low = key_then_value c.args.run.now.read c.args.slot c.step-key.result c.requires.pair is_key in

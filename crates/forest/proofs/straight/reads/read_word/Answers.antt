@@ -2,6 +2,7 @@ use Rattle.std.proofs.Common.{arith, Ok}
 use Rattle.edits.specs.Next.{placed}
 use Rattle.edits.specs.declared.update.Next.TheVariants.{Read}
 use Rattle.forest.specs.Traces.{shared_nodes}
+use Rattle.forest.specs.Hands.{names}
 use Rattle.forest.proofs.StraightUpdate.{reads_next, reads_on, read_steps}
 use Rattle.forest.proofs.straight.reads.read_word.Goals as goal
 
@@ -18,5 +19,5 @@ returns-clause-goes_on g c = record {
   steps = (
       let r = c.requires.tries in
       let known = reads_next r.0 _ c.args.run.now c.args.found.now c.args.node c.args.part r.1 in
-      read_steps _ _ _ _ _ _ c.step-told.ensures.one (c.read_on.ensures.nearer known.0 (shared_nodes c.args.hand.layout.now) known.1));
+      read_steps _ _ _ _ _ _ c.step-told.ensures.one (c.read_on.ensures.nearer known.0 (shared_nodes (names c.args.hand)) known.1));
 }

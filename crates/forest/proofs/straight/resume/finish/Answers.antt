@@ -3,6 +3,7 @@ use Rattle.forest.specs.Hosts.{HostedIsTold, HostedStands}
 use Rattle.forest.specs.StraightUpdate.{Updater}
 use Rattle.forest.specs.Traces.{shared_nodes}
 use Rattle.forest.specs.CallKinds.{calls}
+use Rattle.forest.specs.Hands.{names}
 use Rattle.edits.specs.Steps.{IsNearer, update_left}
 use Rattle.forest.proofs.Advances.{weighs}
 use Rattle.forest.proofs.Hosts.{told_on}
@@ -12,12 +13,12 @@ use Rattle.forest.proofs.straight.resume.finish.Goals.{After-step-turn}
 use Rattle.forest.proofs.straight.resume.finish.Goals as goal
 
 -- the update gets what its step has found
-told : (g : Over) (c : After-step-turn g) (u : Updater (calls g.S.Shape g.M.Machine c.args.hand.layout.now c.args.hand.number) g.E.Edit.means) → HostedStands u c.args.seat.now.me.0.passes c.args.machine c.args.turn → HostedIsTold u c.step-told.new.seat.me.0.passes c.loop-turn.machine c.step-told.result
+told : (g : Over) (c : After-step-turn g) (u : Updater (calls g.S.Shape g.M.Machine g.M.CallMachine.left_dealt (names c.args.hand) c.args.hand.number) g.E.Edit.means) → HostedStands u c.args.seat.now.me.0.passes c.args.machine c.args.turn → HostedIsTold u c.step-told.new.seat.me.0.passes c.loop-turn.machine c.step-told.result
 told g c u x = c.step-told.ensures.told u.call u.first (u.with_run c.loop-turn.machine) (u.is_layout, u.is_number) (rw c.in-Ask.is at c.loop-turn.invariant.stands u x)
 
 -- it has fewer steps left than before
-nearer : (g : Over) (c : After-step-turn g) → IsNearer g.E.Edit.means c.step-turn.new.self (shared_nodes c.args.hand.layout.now) c.step-turn.result (update_left g.E.Edit.means c.loop-turn.machine (shared_nodes c.args.hand.layout.now))
-nearer g c = let r = c.requires.stands in c.step-turn.ensures.nearer (shared_nodes c.args.hand.layout.now) (told_fits r.0 _ c.loop-turn.machine c.step-told.result (told g c r.0 r.1))
+nearer : (g : Over) (c : After-step-turn g) → IsNearer g.E.Edit.means c.step-turn.new.self (shared_nodes (names c.args.hand)) c.step-turn.result (update_left g.E.Edit.means c.loop-turn.machine (shared_nodes (names c.args.hand)))
+nearer g c = let r = c.requires.stands in c.step-turn.ensures.nearer (shared_nodes (names c.args.hand)) (told_fits r.0 _ c.loop-turn.machine c.step-told.result (told g c r.0 r.1))
 
 pub step-told-requires-clause-waits : goal.step-told-requires-clause-waits
 step-told-requires-clause-waits g c = let r = c.requires.stands in let u = r.0 in (u.call, u.first, u.with_run c.loop-turn.machine, (u.is_layout, u.is_number), rw c.in-Ask.is at c.loop-turn.invariant.stands u r.1)

@@ -3,17 +3,19 @@ use Rattle.template.specs.declared.walk.Found.{Found}
 use Rattle.forest.specs.Traces.{shared_nodes}
 use Rattle.forest.specs.StraightUpdate.{Updater, UpdaterGoesOn}
 use Rattle.forest.specs.CallKinds.{calls}
+use Rattle.forest.specs.Hands.{names}
 use Rattle.forest.proofs.StraightUpdate.{goes_there, has_passes, left_standing}
 use Rattle.forest.proofs.straight.resume.from_next.Given.{Over}
 use Rattle.forest.proofs.straight.resume.from_next.Goals.{After-copied}
+use Rattle.forest.proofs.Slotted.{names_are}
 use Rattle.forest.proofs.straight.resume.from_next.Goals as goal
 
 -- with a place again it continues as before
-goes_on : (g : Over) (c : After-copied g) (u : Updater (calls g.S.Shape g.M.Machine c.args.hand.layout.now c.args.hand.number) g.E.Edit.means) → UpdaterGoesOn u c.args.seat.now.me.0.passes c.args.run.now c.args.found.now c.args.next → UpdaterGoesOn u c.args.seat.now.me.0.passes c.take_run-machine.result c.copied.result c.args.next
+goes_on : (g : Over) (c : After-copied g) (u : Updater (calls g.S.Shape g.M.Machine g.M.CallMachine.left_dealt (names c.args.hand) c.args.hand.number) g.E.Edit.means) → UpdaterGoesOn u c.args.seat.now.me.0.passes c.args.run.now c.args.found.now c.args.next → UpdaterGoesOn u c.args.seat.now.me.0.passes c.take_run-machine.result c.copied.result c.args.next
 goes_on g c u x = subst (λ (f : Found). UpdaterGoesOn u c.args.seat.now.me.0.passes c.take_run-machine.result f c.args.next) (sym c.copied.ensures) (goes_there u _ c.args.run.now c.take_run-machine.result c.args.found.now c.args.next c.take_run-machine.ensures x)
 
 pub take_run-machine-requires : goal.take_run-machine-requires
-take_run-machine-requires g c = record { some = has_passes c.requires.goes_on.0 }
+take_run-machine-requires g c = record { some = has_passes c.requires.goes_on.0 _ (names_are c.args.hand.words.now.table.shared.key c.args.hand.layout.now c.args.hand.of_table.1 c.args.hand.of_table.2) }
 
 pub rest_from_next-updated-requires-clause-goes_on : goal.rest_from_next-updated-requires-clause-goes_on
 rest_from_next-updated-requires-clause-goes_on g c = let r = c.requires.goes_on in (r.0, goes_on g (goal.at.rest_from_next-updated-requires-clause-goes_on g c).After-copied r.0 r.1)
@@ -22,5 +24,5 @@ pub returns : goal.returns
 returns g c = record {
   table = c.rest_from_next-updated.ensures.table;
   to = λ u x. c.rest_from_next-updated.ensures.to u (goes_on g (goal.at.returns g c).After-copied u x);
-  steps = (let s = rw c.copied.ensures at c.rest_from_next-updated.ensures.steps in let w = left_standing g.E.Edit.means c.args.run.now c.take_run-machine.result c.args.found.now c.args.next (shared_nodes c.args.hand.layout.now) c.take_run-machine.ensures in omega (arith, s, w));
+  steps = (let s = rw c.copied.ensures at c.rest_from_next-updated.ensures.steps in let w = left_standing g.E.Edit.means c.args.run.now c.take_run-machine.result c.args.found.now c.args.next (shared_nodes (names c.args.hand)) c.take_run-machine.ensures in omega (arith, s, w));
 }

@@ -5,11 +5,13 @@ use Rattle.edits.specs.declared.update.UpdateAt.{UpdateAt}
 use Rattle.edits.specs.declared.update.UpdateRun.{UpdateRun}
 use Rattle.forest.specs.Leads.{steps_made}
 use Rattle.forest.specs.Traces.{shared_nodes}
+use Rattle.forest.specs.Hands.{names}
 use Rattle.forest.proofs.StraightUpdate.{has_passes}
+use Rattle.forest.proofs.Slotted.{names_are}
 use Rattle.forest.proofs.straight.resume.from_place.Goals as goal
 
 pub take_run-machine-requires : goal.take_run-machine-requires
-take_run-machine-requires g c = record { some = has_passes c.requires.waits.0 }
+take_run-machine-requires g c = record { some = has_passes c.requires.waits.0 _ (names_are c.args.hand.words.now.table.shared.key c.args.hand.layout.now c.args.hand.of_table.1 c.args.hand.of_table.2) }
 
 pub rest_from-updated-requires-clause-waits : goal.rest_from-updated-requires-clause-waits
 rest_from-updated-requires-clause-waits g c = let r = c.requires.waits in (r.0, rw c.take_run-machine.ensures r.1)
@@ -18,5 +20,5 @@ pub returns : goal.returns
 returns g c = record {
   table = c.rest_from-updated.ensures.table;
   to = λ u x. c.rest_from-updated.ensures.to u (rw c.take_run-machine.ensures x);
-  steps = subst (λ (m : UpdateRun g.row.E.Denot UpdateAt). steps_made c.rest_from-updated.new.seat ≤ steps_made c.args.seat.now + suc (update_left g.E.Edit.means (standing m c.args.at) (shared_nodes c.args.hand.layout.now))) c.take_run-machine.ensures c.rest_from-updated.ensures.steps;
+  steps = subst (λ (m : UpdateRun g.row.E.Denot UpdateAt). steps_made c.rest_from-updated.new.seat ≤ steps_made c.args.seat.now + suc (update_left g.E.Edit.means (standing m c.args.at) (shared_nodes (names c.args.hand)))) c.take_run-machine.ensures c.rest_from-updated.ensures.steps;
 }

@@ -4,6 +4,7 @@ use Rattle.edits.specs.declared.update.UpdateAt.{UpdateAt}
 use Rattle.edits.specs.declared.update.UpdateRun.{UpdateRun}
 use Rattle.forest.specs.Leads.{steps_made}
 use Rattle.forest.specs.Traces.{shared_nodes}
+use Rattle.forest.specs.Hands.{names}
 use Rattle.forest.proofs.straight.resume.rest_from.Goals as goal
 
 pub finish-requires-clause-stands : goal.finish-requires-clause-stands
@@ -13,5 +14,5 @@ pub returns : goal.returns
 returns g c = record {
   table = c.finish.ensures.table;
   to = λ u x. c.finish.ensures.to u (rw c.placed_at.ensures x);
-  steps = subst (λ (m : UpdateRun g.row.E.Denot UpdateAt). steps_made c.finish.new.seat ≤ steps_made c.args.seat.now + suc (update_left g.E.Edit.means m (shared_nodes c.args.hand.layout.now))) c.placed_at.ensures c.finish.ensures.steps;
+  steps = subst (λ (m : UpdateRun g.row.E.Denot UpdateAt). steps_made c.finish.new.seat ≤ steps_made c.args.seat.now + suc (update_left g.E.Edit.means m (shared_nodes (names c.args.hand)))) c.placed_at.ensures c.finish.ensures.steps;
 }

@@ -1,5 +1,6 @@
 use Rattle.std.proofs.Common.{arith}
 use Rattle.forest.specs.Traces.{shared_nodes}
+use Rattle.forest.specs.Hands.{names}
 use Rattle.forest.proofs.StraightUpdate.{blocks_there, left_blocked}
 use Rattle.forest.proofs.straight.resume.rest_from_block.Goals as goal
 
@@ -10,5 +11,5 @@ pub returns : goal.returns
 returns g c = record {
   table = c.finish.ensures.table;
   to = λ u x. c.finish.ensures.to u (blocks_there u _ c.args.machine c.block-turn.new.self c.args.found c.args.scx c.args.help c.block-turn.result c.block-turn.ensures.place c.block-turn.ensures.asks x);
-  steps = (let w = left_blocked g.E.Edit.means c.args.machine c.block-turn.new.self c.args.found c.args.scx c.args.help c.block-turn.result (shared_nodes c.args.hand.layout.now) c.block-turn.ensures.place c.block-turn.ensures.asks in let s = c.finish.ensures.steps in omega (arith, w, s));
+  steps = (let w = left_blocked g.E.Edit.means c.args.machine c.block-turn.new.self c.args.found c.args.scx c.args.help c.block-turn.result (shared_nodes (names c.args.hand)) c.block-turn.ensures.place c.block-turn.ensures.asks in let s = c.finish.ensures.steps in omega (arith, w, s));
 }

@@ -6,25 +6,26 @@ use Rattle.prims.specs.declared.scx.ScxAt.TheVariants.{Plan as AtPlan, New as At
 use Rattle.forest.specs.StraightScx.{Changer, changing_at, scx_fill, FillsPlan}
 use Rattle.forest.specs.CallKinds.{calls}
 use Rattle.forest.specs.Inside.{InnerWaits}
+use Rattle.forest.specs.Hands.{names}
 use Rattle.forest.proofs.StraightScx.{to_new, to_old, to_member}
 use Rattle.forest.proofs.straight.scx.fill_all.Given.{Over}
 use Rattle.forest.proofs.straight.scx.fill_all.Goals.{After-fill, After-fill-2, After-fill-3, After-fill_members, After-fill_infos}
 use Rattle.forest.proofs.straight.scx.fill_all.Goals as goal
 
 -- whichever call waited for the fill of the plan, it goes from fill to fill
-at_new : (g : Over) (c : After-fill g) (k : Changer g.T.Shape.allows (calls g.S.Shape g.M.Machine c.args.hand.layout.now c.args.hand.number)) → FillsPlan k c.args.seat.now.me.0.passes (g.L.SnapList.list c.args.snaps.now) c.args.change → InnerWaits k c.fill.new.seat.me.0.passes (changing_at (g.L.SnapList.list c.args.snaps.now) c.args.change AtNew) (scx_fill c.args.change.scx New c.args.change.fresh.0)
+at_new : (g : Over) (c : After-fill g) (k : Changer g.T.Shape.allows (calls g.S.Shape g.M.Machine g.M.CallMachine.left_dealt (names c.args.hand) c.args.hand.number)) → FillsPlan k c.args.seat.now.me.0.passes (g.L.SnapList.list c.args.snaps.now) c.args.change → InnerWaits k c.fill.new.seat.me.0.passes (changing_at (g.L.SnapList.list c.args.snaps.now) c.args.change AtNew) (scx_fill c.args.change.scx New c.args.change.fresh.0)
 at_new g c k x = to_new k (g.L.SnapList.list c.args.snaps.now) c.args.change _ c.fill.result (c.fill.ensures.told k (changing_at (g.L.SnapList.list c.args.snaps.now) c.args.change AtPlan) x)
 
-at_old : (g : Over) (c : After-fill-2 g) (k : Changer g.T.Shape.allows (calls g.S.Shape g.M.Machine c.args.hand.layout.now c.args.hand.number)) → FillsPlan k c.args.seat.now.me.0.passes (g.L.SnapList.list c.args.snaps.now) c.args.change → InnerWaits k c.fill-2.new.seat.me.0.passes (changing_at (g.L.SnapList.list c.args.snaps.now) c.args.change AtOld) (scx_fill c.args.change.scx Old c.args.change.old.0)
+at_old : (g : Over) (c : After-fill-2 g) (k : Changer g.T.Shape.allows (calls g.S.Shape g.M.Machine g.M.CallMachine.left_dealt (names c.args.hand) c.args.hand.number)) → FillsPlan k c.args.seat.now.me.0.passes (g.L.SnapList.list c.args.snaps.now) c.args.change → InnerWaits k c.fill-2.new.seat.me.0.passes (changing_at (g.L.SnapList.list c.args.snaps.now) c.args.change AtOld) (scx_fill c.args.change.scx Old c.args.change.old.0)
 at_old g c k x = to_old k (g.L.SnapList.list c.args.snaps.now) c.args.change _ c.fill-2.result (c.fill-2.ensures.told k (changing_at (g.L.SnapList.list c.args.snaps.now) c.args.change AtNew) (at_new g (goal.at.fill-requires-2-clause-waits g c.before).After-fill k x))
 
-at_member : (g : Over) (c : After-fill-3 g) (k : Changer g.T.Shape.allows (calls g.S.Shape g.M.Machine c.args.hand.layout.now c.args.hand.number)) → FillsPlan k c.args.seat.now.me.0.passes (g.L.SnapList.list c.args.snaps.now) c.args.change → InnerWaits k c.fill-3.new.seat.me.0.passes (changing_at (g.L.SnapList.list c.args.snaps.now) c.args.change (AtMember First)) (scx_fill c.args.change.scx (Member 0) (snap_at (g.L.SnapList.list c.args.snaps.now) 0).node.0)
+at_member : (g : Over) (c : After-fill-3 g) (k : Changer g.T.Shape.allows (calls g.S.Shape g.M.Machine g.M.CallMachine.left_dealt (names c.args.hand) c.args.hand.number)) → FillsPlan k c.args.seat.now.me.0.passes (g.L.SnapList.list c.args.snaps.now) c.args.change → InnerWaits k c.fill-3.new.seat.me.0.passes (changing_at (g.L.SnapList.list c.args.snaps.now) c.args.change (AtMember First)) (scx_fill c.args.change.scx (Member 0) (snap_at (g.L.SnapList.list c.args.snaps.now) 0).node.0)
 at_member g c k x = to_member k (g.L.SnapList.list c.args.snaps.now) c.args.change _ c.fill-3.result (c.fill-3.ensures.told k (changing_at (g.L.SnapList.list c.args.snaps.now) c.args.change AtOld) (at_old g (goal.at.fill-requires-3-clause-waits g c.before).After-fill-2 k x))
 
-at_seen : (g : Over) (c : After-fill_members g) (k : Changer g.T.Shape.allows (calls g.S.Shape g.M.Machine c.args.hand.layout.now c.args.hand.number)) → FillsPlan k c.args.seat.now.me.0.passes (g.L.SnapList.list c.args.snaps.now) c.args.change → InnerWaits k c.fill_members.new.seat.me.0.passes (changing_at (g.L.SnapList.list c.args.snaps.now) c.args.change (AtSeen First)) (scx_fill c.args.change.scx (Seen 0) (snap_at (g.L.SnapList.list c.args.snaps.now) 0).scx.0)
+at_seen : (g : Over) (c : After-fill_members g) (k : Changer g.T.Shape.allows (calls g.S.Shape g.M.Machine g.M.CallMachine.left_dealt (names c.args.hand) c.args.hand.number)) → FillsPlan k c.args.seat.now.me.0.passes (g.L.SnapList.list c.args.snaps.now) c.args.change → InnerWaits k c.fill_members.new.seat.me.0.passes (changing_at (g.L.SnapList.list c.args.snaps.now) c.args.change (AtSeen First)) (scx_fill c.args.change.scx (Seen 0) (snap_at (g.L.SnapList.list c.args.snaps.now) 0).scx.0)
 at_seen g c k x = c.fill_members.ensures.to k (at_member g (goal.at.fill_members-requires-clause-waits g c.before).After-fill-3 k x)
 
-at_call : (g : Over) (c : After-fill_infos g) (k : Changer g.T.Shape.allows (calls g.S.Shape g.M.Machine c.args.hand.layout.now c.args.hand.number)) → FillsPlan k c.args.seat.now.me.0.passes (g.L.SnapList.list c.args.snaps.now) c.args.change → InnerWaits k c.fill_infos.new.seat.me.0.passes (changing_at (g.L.SnapList.list c.args.snaps.now) c.args.change AtCall) (scx_fill c.args.change.scx CallWord c.args.change.call)
+at_call : (g : Over) (c : After-fill_infos g) (k : Changer g.T.Shape.allows (calls g.S.Shape g.M.Machine g.M.CallMachine.left_dealt (names c.args.hand) c.args.hand.number)) → FillsPlan k c.args.seat.now.me.0.passes (g.L.SnapList.list c.args.snaps.now) c.args.change → InnerWaits k c.fill_infos.new.seat.me.0.passes (changing_at (g.L.SnapList.list c.args.snaps.now) c.args.change AtCall) (scx_fill c.args.change.scx CallWord c.args.change.call)
 at_call g c k x = c.fill_infos.ensures.to k (at_seen g (goal.at.fill_infos-requires-clause-waits g c.before).After-fill_members k x)
 
 pub fill-requires-clause-waits : goal.fill-requires-clause-waits

@@ -1,30 +1,31 @@
-use Rattle.std.proofs.Common.{Some, refl, sym, ap, subst}
-use Rattle.histories.specs.Common.{Layout, IsWord, History}
-use Rattle.forest.specs.TableRule.{IsPlaceOf, past_of, row}
+use Rattle.std.proofs.Common.{Some, refl, sym, ◌∙◌, ap, subst}
+use Rattle.std.proofs.Math.Nat.{le_of_eq}
+use Rattle.histories.specs.Common.{Layout, IsWord, History, table_size}
+use Rattle.forest.specs.TableRule.{past_of, row}
 use Rattle.forest.specs.Traces.{Trace, known_of, others, makes}
-use Rattle.forest.proofs.Advances.{called_so, may, of_map_call, word_of, told, one_step}
+use Rattle.forest.proofs.Advances.{called_so, may, may_in_map, word_of, told, one_step}
+use Rattle.forest.proofs.Calls.{course_keeps}
+use Rattle.forest.proofs.Ruled.{never_lasts}
 use Rattle.forest.proofs.straight.step.step_from.Goals as goal
 
 pub place_from-at-requires-clause-word : goal.place_from-at-requires-clause-word
 place_from-at-requires-clause-word g c = let w = c.requires.waits in let law = g.met.M.Machine in
     subst (λ (l : Layout). IsWord l c.args.step.word) w.3.0 (word_of g.S.Shape.allows w.0 record { call = c.args.hand.number; step = c.args.step } w.3.1 _ _ (λ h. law.lawful w.2 w.0 h c.args.step) (called_so w.4))
 
-pub make-requires-clause-place : goal.make-requires-clause-place
-make-requires-clause-place g c = let w = c.requires.waits in let law = g.met.M.Machine in
-    subst (λ (l : Layout). IsPlaceOf l c.args.step.word c.place_from-at.result) (sym c.args.hand.of_table.1) record {
-      is_word = subst (λ (l : Layout). IsWord l c.args.step.word) w.3.0 (word_of g.S.Shape.allows w.0 record { call = c.args.hand.number; step = c.args.step } w.3.1 _ _ (λ h. law.lawful w.2 w.0 h c.args.step) (called_so w.4));
-      is_place = c.place_from-at.ensures.place;
-      inside = c.place_from-at.ensures.inside;
-      apart = c.place_from-at.ensures.apart;
-    }
+pub make-requires-clause-table : goal.make-requires-clause-table
+make-requires-clause-table g c = let table = c.args.hand.of_table in (c.requires.table, le_of_eq (ap table_size table.1 ∙ sym table.0))
+
+pub make-requires-clause-last : goal.make-requires-clause-last
+make-requires-clause-last g c = never_lasts g.S.Shape.mode g.S.Shape.allows c.args.hand.words.now.table.shared.key c.args.hand.of_table.2
 
 pub make-requires-clause-may : goal.make-requires-clause-may
 make-requires-clause-may g c = let w = c.requires.waits in let law = g.met.M.Machine in
     may g.S.Shape.allows w.0 record { call = c.args.hand.number; step = c.args.step } w.3.1 _ _ (λ h r. law.keeps w.2 w.0 h c.args.step r) (λ h. law.lawful w.2 w.0 h c.args.step) (called_so w.4)
 
-pub make-requires-clause-of_call : goal.make-requires-clause-of_call
-make-requires-clause-of_call g c = λ map. let w = c.requires.waits in let law = g.met.M.Machine in
-    of_map_call g.S.Shape.allows w.0 record { call = c.args.hand.number; step = c.args.step } w.3.1 _ _ (λ h r. law.keeps w.2 w.0 h c.args.step r) (λ h waits. g.met.M.CallMachine.of_call w.2 w.0 h c.args.step map waits) (called_so w.4)
+pub make-requires-clause-in_map : goal.make-requires-clause-in_map
+make-requires-clause-in_map g c = λ map. let w = c.requires.waits in let law = g.met.M.Machine in let in_call = g.met.M.CallMachine in
+    may_in_map g.S.Shape.allows w.0 record { call = c.args.hand.number; step = c.args.step } w.3.1 _ _ (λ h r. law.keeps w.2 w.0 h c.args.step r) (λ h. law.lawful w.2 w.0 h c.args.step) (λ h waits. in_call.of_call w.2 w.0 h c.args.step map waits) (called_so w.4)
+    (in_call.dealt w.2 w.0 _ c.args.step w.4.is.memory map w.4.so.0 (course_keeps (λ (m : g.row.M.Denot). g.M.CallMachine.left_dealt m w.4.is.memory) w.4.is.left (λ old now same left. in_call.keeps_left old now w.4.is.memory same left) w.2 _ w.4.so.1))
 
 pub returns-clause-told : goal.returns-clause-told
 returns-clause-told g c = λ k first m fits x. let law = g.met.M.Machine in let step = c.args.step in let found = c.make.result in

@@ -11,13 +11,14 @@ use Rattle.forest.specs.Leads.{steps_made}
 use Rattle.forest.specs.StraightUpdate.{Updater, UpdaterBegins, UpdaterGoesOn}
 use Rattle.forest.specs.StraightWalk.{WalkerFinds}
 use Rattle.forest.specs.Traces.{shared_nodes}
+use Rattle.forest.specs.Hands.{names}
 use Rattle.forest.proofs.StraightGuard.{call_steps, finds, walker, walks_there}
 use Rattle.forest.proofs.straight.update.call.Given.{Over}
 use Rattle.forest.proofs.straight.update.call.Goals.{After-test_share-next}
 use Rattle.forest.proofs.straight.update.call.Goals as goal
 
 -- whichever call began, after its walk it continues as its try does
-goes_on : (g : Over) (c : After-test_share-next g) (u : Updater (calls g.S.Shape g.M.Machine c.args.hand.layout.now c.args.hand.number) g.E.Edit.means) → UpdaterBegins u c.args.seat.now.me.0.passes c.args.run.now → UpdaterGoesOn u c.call_from.new.seat.me.0.passes c.test_share-next.new.self c.copied-found.result c.test_share-next.result
+goes_on : (g : Over) (c : After-test_share-next g) (u : Updater (calls g.S.Shape g.M.Machine g.M.CallMachine.left_dealt (names c.args.hand) c.args.hand.number) g.E.Edit.means) → UpdaterBegins u c.args.seat.now.me.0.passes c.args.run.now → UpdaterGoesOn u c.call_from.new.seat.me.0.passes c.test_share-next.new.self c.copied-found.result c.test_share-next.result
 goes_on g c u x =
     let begun = c.in-Ok.ensures.walks in
     finds u _ c.begin.new.run c.test_share-next.new.self c.way-way.result c.goal-goal.result c.call_from.result.1 c.copied-found.result c.test_share-next.result
@@ -36,16 +37,16 @@ pub try_on-requires-clause-goes_on : goal.try_on-requires-clause-goes_on
 try_on-requires-clause-goes_on g c = let r = c.requires.begins in (r.0, goes_on g (goal.at.try_on-requires-clause-goes_on g c).After-test_share-next r.0 r.1)
 
 -- what is left after its walk is as much as where it had not begun
-left : (g : Over) (c : After-test_share-next g) → left_then g.E.Edit.means c.test_share-next.new.self c.copied-found.result c.test_share-next.result (shared_nodes c.args.hand.layout.now) ≤ c.args.run.now.tries * try_left g.E.Edit.means c.args.run.now.edit (shared_nodes c.args.hand.layout.now) + (64 * g.E.Edit.means.most_looks c.args.run.now.edit + most_works g.E.Edit.means c.args.run.now.edit + 39)
+left : (g : Over) (c : After-test_share-next g) → left_then g.E.Edit.means c.test_share-next.new.self c.copied-found.result c.test_share-next.result (shared_nodes (names c.args.hand)) ≤ c.args.run.now.tries * try_left g.E.Edit.means c.args.run.now.edit (shared_nodes (names c.args.hand)) + (64 * g.E.Edit.means.most_looks c.args.run.now.edit + most_works g.E.Edit.means c.args.run.now.edit + 39)
 left g c =
-    let nodes = shared_nodes c.args.hand.layout.now in
+    let nodes = shared_nodes (names c.args.hand) in
     subst (λ (m : UpdateRun g.row.E.Denot (Unit {0})). left_then g.E.Edit.means c.test_share-next.new.self c.copied-found.result c.test_share-next.result nodes ≤ m.tries * try_left g.E.Edit.means m.edit nodes + (64 * g.E.Edit.means.most_looks m.edit + most_works g.E.Edit.means m.edit + 39)) c.in-Ok.ensures.walks.is
     (weighs_next g.E.Edit.means c.test_share-next.new.self c.copied-found.result c.test_share-next.result nodes _ (c.test_share-next.ensures.nearer nodes))
 
 pub returns : goal.returns
 returns g c =
     let at = (goal.at.returns g c).After-test_share-next in
-    let nodes = shared_nodes c.args.hand.layout.now in
+    let nodes = shared_nodes (names c.args.hand) in
     let run = c.args.run.now in
     record {
       table = search rules;

@@ -11,6 +11,7 @@ use Rattle.forest.specs.StraightScx.{all_frozen_load}
 use Rattle.forest.specs.StraightUpdate.{Updater, UpdaterIsBlocked, UpdaterTries}
 use Rattle.forest.specs.declared.straight.scx.ScxTask.{ScxTask as ChangeOf}
 use Rattle.forest.specs.CallKinds.{calls}
+use Rattle.forest.specs.Hands.{names}
 use Rattle.forest.proofs.Inside.{waits_within}
 use Rattle.forest.proofs.StraightScx.{helper, to_help, help_waits, help_told}
 use Rattle.forest.proofs.StraightUpdate.{changer, begins_change, changed, is_blocked, update_is}
@@ -23,7 +24,7 @@ abbrev change_of : (g : Over) (c : After-fill_all g) → ChangeOf
 change_of g c = record { scx = c.args.scx; call = c.args.run.now.call; plan = c.args.run.now.work.plan; old = c.old.result; fresh = c.fresh.result }
 
 -- whichever call tries, once all is filled its HELP waits to load the plan
-helps : (g : Over) (c : After-fill_all g) (u : Updater (calls g.S.Shape g.M.Machine c.args.hand.layout.now c.args.hand.number) g.E.Edit.means) → UpdaterTries u c.args.seat.now.me.0.passes c.args.run.now c.args.found.now (Change c.args.scx) → LoadsPlan (helper (changer u c.args.run.now c.args.found.now) c.as_slice-snaps.result.now (change_of g c)) c.fill_all.new.seat.me.0.passes c.new-help.result
+helps : (g : Over) (c : After-fill_all g) (u : Updater (calls g.S.Shape g.M.Machine g.M.CallMachine.left_dealt (names c.args.hand) c.args.hand.number) g.E.Edit.means) → UpdaterTries u c.args.seat.now.me.0.passes c.args.run.now c.args.found.now (Change c.args.scx) → LoadsPlan (helper (changer u c.args.run.now c.args.found.now) c.as_slice-snaps.result.now (change_of g c)) c.fill_all.new.seat.me.0.passes c.new-help.result
 helps g c u x = to_help (changer u c.args.run.now c.args.found.now) c.as_slice-snaps.result.now (change_of g c) _ c.new-help.result c.fill_all.result c.new-help.ensures.scx c.new-help.ensures.start
     (c.fill_all.ensures.to (changer u c.args.run.now c.args.found.now) (begins_change u _ c.args.run.now c.args.found.now c.args.scx c.as_slice-snaps.result.now c.args.run.now.work.plan c.old.result c.fresh.result c.as_slice-snaps.ensures.value refl c.old.ensures c.fresh.ensures x))
 
@@ -51,7 +52,7 @@ returns-then-begin g c = record {
 }
 
 -- where a node could not be frozen it waits to look whether all were
-blocked : (g : Over) (c : Else-begin g) (u : Updater (calls g.S.Shape g.M.Machine c.args.hand.layout.now c.args.hand.number) g.E.Edit.means) → UpdaterTries u c.args.seat.now.me.0.passes c.args.run.now c.args.found.now (Change c.args.scx) → UpdaterIsBlocked u c.begin.new.seat.me.0.passes c.args.run.now c.args.found.now c.args.scx c.begin.new.run
+blocked : (g : Over) (c : Else-begin g) (u : Updater (calls g.S.Shape g.M.Machine g.M.CallMachine.left_dealt (names c.args.hand) c.args.hand.number) g.E.Edit.means) → UpdaterTries u c.args.seat.now.me.0.passes c.args.run.now c.args.found.now (Change c.args.scx) → UpdaterIsBlocked u c.begin.new.seat.me.0.passes c.args.run.now c.args.found.now c.args.scx c.begin.new.run
 blocked g c u x = is_blocked u _ c.args.run.now c.args.found.now c.args.scx c.begin.new.run (with_update parts) same waits
   where
     parts : Update

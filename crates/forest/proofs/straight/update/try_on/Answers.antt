@@ -10,7 +10,7 @@ use Rattle.forest.proofs.straight.update.try_on.Goals.{After-fill_on-worked}
 use Rattle.forest.proofs.straight.update.try_on.Goals as goal
 
 -- after its looks, loads and fills it continues so
-worked : (g : Over) (c : After-fill_on-worked g) (next : Result Next Stop) → c.fill_on-worked.result ≡ next → TryGoesOn g.S.Shape g.M.Machine g.E.Edit.means c.args.hand c.args.found.now c.args.seat.now c.args.run.now c.args.next c.fill_on-worked.new.seat c.fill_on-worked.new.run next
+worked : (g : Over) (c : After-fill_on-worked g) (next : Result Next Stop) → c.fill_on-worked.result ≡ next → TryGoesOn g.S.Shape g.M.Machine g.M.CallMachine.left_dealt g.E.Edit.means c.args.hand c.args.found.now c.args.seat.now c.args.run.now c.args.next c.fill_on-worked.new.seat c.fill_on-worked.new.run next
 worked g c next is = tries_on c.look_on-looked.ensures (tries_on c.read_on-loaded.ensures (tries_on c.fill_on-worked.ensures (tries_as is)))
 
 pub read_on-loaded-requires-clause-goes_on : goal.read_on-loaded-requires-clause-goes_on

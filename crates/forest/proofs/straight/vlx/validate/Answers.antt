@@ -4,13 +4,14 @@ use Rattle.template.specs.Common.{load, snap_at, Snap}
 use Rattle.forest.specs.StraightVlx.{Validator}
 use Rattle.forest.specs.CallKinds.{calls}
 use Rattle.forest.specs.Inside.{InnerIsTold, InnerWaits}
+use Rattle.forest.specs.Hands.{names}
 use Rattle.forest.proofs.StraightVlx.{to_next}
 use Rattle.forest.proofs.straight.vlx.validate.Given.{Over}
 use Rattle.forest.proofs.straight.vlx.validate.Goals.{After-step-told}
 use Rattle.forest.proofs.straight.vlx.validate.Goals as goal
 
 -- whichever call it is has got the info of this snapshot's node
-told : (g : Over) (c : After-step-told g) (v : Validator (calls g.S.Shape g.M.Machine c.args.hand.layout.now c.args.hand.number) (g.L.SnapList.list c.args.snaps)) → InnerWaits v c.args.seat.now.me.0.passes 1 (load LoadInfo (info (snap_at (g.L.SnapList.list c.args.snaps) 0).node.0)) → InnerIsTold v c.step-told.new.seat.me.0.passes (c.loop-hand.asked + 1) c.step-told.result
+told : (g : Over) (c : After-step-told g) (v : Validator (calls g.S.Shape g.M.Machine g.M.CallMachine.left_dealt (names c.args.hand) c.args.hand.number) (g.L.SnapList.list c.args.snaps)) → InnerWaits v c.args.seat.now.me.0.passes 1 (load LoadInfo (info (snap_at (g.L.SnapList.list c.args.snaps) 0).node.0)) → InnerIsTold v c.step-told.new.seat.me.0.passes (c.loop-hand.asked + 1) c.step-told.result
 told g c v x = subst (λ (n : ℕ). InnerIsTold v c.step-told.new.seat.me.0.passes n c.step-told.result) (omega arith) (c.step-told.ensures.told v.call v.first (v.with_run (suc c.loop-hand.asked)) (v.is_layout, v.is_number) (rw c.get-snap.ensures (c.loop-hand.invariant.waits v x)))
 
 pub step-told-requires-clause-waits : goal.step-told-requires-clause-waits

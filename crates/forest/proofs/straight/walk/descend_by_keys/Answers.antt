@@ -1,5 +1,6 @@
 use Rattle.std.proofs.Common.{◌∙◌, refl, arith}
 use Rattle.forest.specs.Traces.{shared_nodes}
+use Rattle.forest.specs.Hands.{names}
 use Rattle.template.specs.Walk.Places.{way_at}
 use Rattle.template.specs.Walk.Steps.{room}
 use Rattle.forest.proofs.StraightWalk.{fits, some_left}
@@ -32,7 +33,7 @@ loop-way-preserved g c =
 pub returns-in-Err-clause-steps : goal.returns-in-Err-clause-steps
 returns-in-Err-clause-steps g c =
     let r = c.requires.told in
-    let few = some_left c.loop-way.place.at c.loop-way.word (room c.args.way (shared_nodes c.args.hand.layout.now)) c.loop-way.invariant.loads (fits r.0 _ (way_at c.args.way c.args.goal c.loop-way.place.trail c.loop-way.place.at) c.loop-way.place.turns c.loop-way.word (c.loop-way.invariant.told r.0 r.1)) in
+    let few = some_left c.loop-way.place.at c.loop-way.word (room c.args.way (shared_nodes (names c.args.hand))) c.loop-way.invariant.loads (fits r.0 _ (way_at c.args.way c.args.goal c.loop-way.place.trail c.loop-way.place.at) c.loop-way.place.turns c.loop-way.word (c.loop-way.invariant.told r.0 r.1)) in
     let one = c.in-Err.ensures.steps in let old = c.loop-way.invariant.steps in
     omega (arith, few, one, old)
 

@@ -4,6 +4,7 @@ use Rattle.template.specs.declared.walk.WalkAt.TheVariants.{More}
 use Rattle.order.specs.declared.last_turns.LastTurns.{LastTurns}
 use Rattle.forest.specs.CallKinds.{calls}
 use Rattle.forest.specs.StraightWalk.{Walker, WalkerIsTold}
+use Rattle.forest.specs.Hands.{names}
 use Rattle.forest.proofs.StraightWalk.{to_more, finds_none}
 use Rattle.forest.proofs.straight.walk.end.Given.{Over}
 use Rattle.forest.proofs.straight.walk.end.Goals.{After-of-head, After-read-more}
@@ -13,7 +14,7 @@ leaf : (g : Over) (c : After-of-head g) → c.of-head.result.leaf ≡ true
 leaf g c = rw c.of-head.ensures c.requires.leaf
 
 -- whichever call it is, it has got the count
-told : (g : Over) (c : After-read-more g) (w : Walker (calls g.S.Shape g.M.Machine c.args.hand.layout.now c.args.hand.number)) (turn : LastTurns)
+told : (g : Over) (c : After-read-more g) (w : Walker (calls g.S.Shape g.M.Machine g.M.CallMachine.left_dealt (names c.args.hand) c.args.hand.number)) (turn : LastTurns)
     → WalkerIsTold w c.args.seat.now.me.0.passes (way_at c.args.way c.args.goal c.args.trail c.args.at) turn c.args.word
     → WalkerIsTold w c.read-more.new.seat.me.0.passes (way_at c.args.way c.args.goal c.args.trail (More c.of-head.result)) turn c.read-more.result
 told g c w turn x = c.read-more.ensures.told w (way_at c.args.way c.args.goal c.args.trail (More c.of-head.result)) turn (to_more w _ c.args.way c.args.goal c.args.trail turn c.args.at c.args.word c.of-head.result c.requires.stands.place (sym c.of-head.ensures) (leaf g (goal.at.read-more-requires-clause-waits g c.before).After-of-head) c.if-head-eq0.true x)

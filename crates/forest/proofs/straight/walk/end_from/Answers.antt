@@ -5,13 +5,14 @@ use Rattle.template.specs.declared.walk.WalkAt.TheVariants.{More, Pair}
 use Rattle.order.specs.declared.last_turns.LastTurns.{LastTurns}
 use Rattle.forest.specs.CallKinds.{calls}
 use Rattle.forest.specs.StraightWalk.{Walker, WalkerIsTold}
+use Rattle.forest.specs.Hands.{names}
 use Rattle.forest.proofs.StraightWalk.{to_first, to_next, finds_other, next_slot, few_slots}
 use Rattle.forest.proofs.straight.walk.end_from.Given.{Over}
 use Rattle.forest.proofs.straight.walk.end_from.Goals.{After-read-key, Else-asked-key}
 use Rattle.forest.proofs.straight.walk.end_from.Goals as goal
 
 -- whichever call it is, it has got the key in this slot
-told : (g : Over) (c : After-read-key g) (w : Walker (calls g.S.Shape g.M.Machine c.args.hand.layout.now c.args.hand.number)) (turn : LastTurns)
+told : (g : Over) (c : After-read-key g) (w : Walker (calls g.S.Shape g.M.Machine g.M.CallMachine.left_dealt (names c.args.hand) c.args.hand.number)) (turn : LastTurns)
     → WalkerIsTold w c.args.seat.now.me.0.passes (way_at c.args.way c.args.goal c.args.trail (More c.args.head)) turn c.args.more
     → WalkerIsTold w c.read-key.new.seat.me.0.passes (way_at c.args.way c.args.goal c.args.trail (Pair c.args.head c.args.more c.loop-hand.slot)) turn c.read-key.result
 told g c w turn x = c.read-key.ensures.told w (way_at c.args.way c.args.goal c.args.trail (Pair c.args.head c.args.more c.loop-hand.slot)) turn (c.loop-hand.invariant.waits w turn x)

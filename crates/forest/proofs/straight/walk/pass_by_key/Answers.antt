@@ -6,6 +6,7 @@ use Rattle.template.specs.Walk.Places.{way_at, way_from}
 use Rattle.template.specs.declared.walk.WalkAt.TheVariants.{Key}
 use Rattle.forest.specs.CallKinds.{calls}
 use Rattle.forest.specs.StraightWalk.{Walker, WalkerIsTold}
+use Rattle.forest.specs.Hands.{names}
 use Rattle.forest.proofs.StraightWalk.{to_key, to_side, finds_fork}
 use Rattle.forest.proofs.straight.walk.pass_by_key.Given.{Over}
 use Rattle.forest.proofs.straight.walk.pass_by_key.Goals.{After-read-key}
@@ -16,7 +17,7 @@ read-key-requires-clause-waits g c = let r = c.requires.told in
     (r.0, way_at c.args.way c.args.goal c.args.trail (Key (head_of c.args.word)), r.1, to_key r.0 _ c.args.way c.args.goal c.args.trail r.1 c.args.at c.args.word (head_of c.args.word) c.requires.stands.place refl c.requires.asks.fork c.requires.asks.asks r.2)
 
 -- whichever call it is, it has got the key of the fork
-told : (g : Over) (c : After-read-key g) (w : Walker (calls g.S.Shape g.M.Machine c.args.hand.layout.now c.args.hand.number)) (turn : LastTurns)
+told : (g : Over) (c : After-read-key g) (w : Walker (calls g.S.Shape g.M.Machine g.M.CallMachine.left_dealt (names c.args.hand) c.args.hand.number)) (turn : LastTurns)
     → WalkerIsTold w c.args.seat.now.me.0.passes (way_at c.args.way c.args.goal c.args.trail c.args.at) turn c.args.word
     → WalkerIsTold w c.read-key.new.seat.me.0.passes (way_at c.args.way c.args.goal c.args.trail (Key (head_of c.args.word))) turn c.read-key.result
 told g c w turn x = c.read-key.ensures.told w (way_at c.args.way c.args.goal c.args.trail (Key (head_of c.args.word))) turn (to_key w _ c.args.way c.args.goal c.args.trail turn c.args.at c.args.word (head_of c.args.word) c.requires.stands.place refl c.requires.asks.fork c.requires.asks.asks x)

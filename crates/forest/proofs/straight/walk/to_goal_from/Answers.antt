@@ -3,6 +3,7 @@ use Rattle.histories.specs.Common.{head_of}
 use Rattle.forest.specs.StraightWalk.{Walker, WalkerHasHead, WalkerIsAt}
 use Rattle.forest.specs.Traces.{shared_nodes}
 use Rattle.forest.specs.CallKinds.{calls}
+use Rattle.forest.specs.Hands.{names}
 use Rattle.template.specs.Walk.Places.{way_at, LoadsHead}
 use Rattle.template.specs.Walk.Steps.{room}
 use Rattle.forest.proofs.StraightWalk.{fits, fewer, some_left}
@@ -11,7 +12,7 @@ use Rattle.forest.proofs.straight.walk.to_goal_from.Goals.{After-read-head}
 use Rattle.forest.proofs.straight.walk.to_goal_from.Goals as goal
 
 -- whichever call it is, it has got the head of this node
-told : (g : Over) (c : After-read-head g) (w : Walker (calls g.S.Shape g.M.Machine c.args.hand.layout.now c.args.hand.number))
+told : (g : Over) (c : After-read-head g) (w : Walker (calls g.S.Shape g.M.Machine g.M.CallMachine.left_dealt (names c.args.hand) c.args.hand.number))
     → WalkerIsAt w c.args.seat.now.me.0.passes c.args.way c.args.goal c.args.first
     → WalkerHasHead w c.read-head.new.seat.me.0.passes c.args.way c.args.goal c.loop-below.place c.read-head.result
 told g c w x = c.read-head.ensures.told w (way_at c.args.way c.args.goal c.loop-below.place.trail c.loop-below.place.at) c.loop-below.place.turns (c.loop-below.invariant.waits w x)
@@ -43,7 +44,7 @@ pass_open-requires-clause-told g c = let r = c.requires.waits in (r.0, c.in-Ok.b
 pub returns-in-Err-pass_open-clause-steps : goal.returns-in-Err-pass_open-clause-steps
 returns-in-Err-pass_open-clause-steps g c =
     let r = c.requires.waits in
-    let few = some_left c.in-Ok.below.0.at c.in-Ok.below.1 (room c.args.way (shared_nodes c.args.hand.layout.now)) c.in-Ok.ensures.stands.place
+    let few = some_left c.in-Ok.below.0.at c.in-Ok.below.1 (room c.args.way (shared_nodes (names c.args.hand))) c.in-Ok.ensures.stands.place
     (fits r.0 _ (way_at c.args.way c.args.goal c.in-Ok.below.0.trail c.in-Ok.below.0.at) c.in-Ok.below.0.turns c.in-Ok.below.1 (c.in-Ok.ensures.told r.0 (told g (goal.at.returns-in-Err-pass_open-clause-steps g c).After-read-head r.0 r.1))) in
     let one = c.read-head.ensures.one in let more = c.in-Ok.ensures.nearer.steps in let last = c.in-Err-pass_open.ensures.steps in let old = c.loop-below.invariant.steps in
     omega (arith, few, one, more, last, old)
@@ -58,7 +59,7 @@ descend-place-requires-clause-waits g c = let r = c.requires.waits in
 pub loop-below-smaller : goal.loop-below-smaller
 loop-below-smaller g c =
     let r = c.requires.waits in
-    let few = fewer c.in-Ok.below.0.at c.in-Ok.below.1 (room c.args.way (shared_nodes c.args.hand.layout.now)) (head_of c.in-Ok.below.1) c.in-Ok.ensures.stands.place refl
+    let few = fewer c.in-Ok.below.0.at c.in-Ok.below.1 (room c.args.way (shared_nodes (names c.args.hand))) (head_of c.in-Ok.below.1) c.in-Ok.ensures.stands.place refl
     (fits r.0 _ (way_at c.args.way c.args.goal c.in-Ok.below.0.trail c.in-Ok.below.0.at) c.in-Ok.below.0.turns c.in-Ok.below.1 (c.in-Ok.ensures.told r.0 (told g (goal.at.loop-below-smaller g c).After-read-head r.0 r.1))) c.descend-place.ensures.below.deep in
     let near = c.in-Ok.ensures.nearer.nearer in
     rw c.descend-place.ensures.below.at (omega (arith, few, near))
@@ -70,7 +71,7 @@ loop-below-preserved g c = record {
   start = c.descend-place.ensures.below.begins;
   steps = (
       let r = c.requires.waits in
-      let few = fewer c.in-Ok.below.0.at c.in-Ok.below.1 (room c.args.way (shared_nodes c.args.hand.layout.now)) (head_of c.in-Ok.below.1) c.in-Ok.ensures.stands.place refl
+      let few = fewer c.in-Ok.below.0.at c.in-Ok.below.1 (room c.args.way (shared_nodes (names c.args.hand))) (head_of c.in-Ok.below.1) c.in-Ok.ensures.stands.place refl
       (fits r.0 _ (way_at c.args.way c.args.goal c.in-Ok.below.0.trail c.in-Ok.below.0.at) c.in-Ok.below.0.turns c.in-Ok.below.1 (c.in-Ok.ensures.told r.0 (told g (goal.at.loop-below-preserved g c).After-read-head r.0 r.1))) c.descend-place.ensures.below.deep in
       let one = c.read-head.ensures.one in let more = c.in-Ok.ensures.nearer.steps in let side = c.in-Ok-pass_open.ensures.steps in let last = c.descend-place.ensures.one in let old = c.loop-below.invariant.steps in
       rw c.descend-place.ensures.below.at (omega (arith, few, one, more, side, last, old))

@@ -1,6 +1,13 @@
+use Rattle.std.proofs.Common.{◌≡◌}
+use Rattle.forest.specs.TableRule.{Looked}
 use Rattle.forest.proofs.Moves.{looks}
+use Rattle.forest.proofs.Ruled.{plain_plot, ruled_allows}
 use Rattle.forest.proofs.words.Words.look.Goals as goal
 
 pub load-requires : goal.load-requires
-load-requires g c = let t = c.requires.two in let key = c.requires.table.0.1 in
-    (c.requires.table.1, rw c.requires.table.0.0 c.place-at.ensures.inside, looks g.S.Shape.allows c.args.self.now.table.shared.key _ _ c.args.seat.now.me c.place-at.result (rw key c.place-at.ensures.place) (rw key c.place-at.ensures.inside) (rw key c.place-at.ensures.apart) t.0 t.1 t.2 (rw key t.4))
+load-requires g c = let allows = g.S.Shape.allows in let site = c.args.self.now.table.shared.key in let t = c.requires.two in let table = c.requires.table.0 in let me = c.args.seat.now.me in let at = c.place-at.result in (
+  c.requires.table.1,
+  rw table.0 c.place-at.ensures.inside,
+  ruled_allows allows site _ _ me at (λ n. n) (λ n m. Looked allows me.0.passes m.0.passes × (m.1 ≡ me.1)) table.2
+      (looks allows (plain_plot allows site) _ _ me at (rw table.1 c.place-at.ensures.place) (rw table.1 c.place-at.ensures.inside) (rw table.1 c.place-at.ensures.apart) t.0 t.1 t.2 (rw table.1 t.4)),
+)

@@ -1,9 +1,14 @@
-use Rattle.std.proofs.Common.{◌≡◌, ℕ, List, sym, ◌∙◌, ap, slice_index}
+use Rattle.std.proofs.Common.{◌≡◌, ℕ, List, [], sym, ◌∙◌, ap, subst, slice_index}
+use Rattle.atomic_table.specs.Table.{opening}
 use Rattle.histories.specs.Common.{Layout, Word, place, table_size, IsWord, Contents}
 use Rattle.arena.specs.Lawful.{Lawful}
 use Rattle.arena.specs.PlainWords.{word_at}
 use Rattle.planting.specs.Plantings.{opening_for}
+use Rattle.forest.specs.Ruled.{first_of_table}
+use Rattle.forest.specs.TableRule.{TableIsLawful}
+use Rattle.forest.specs.declared.view.SeatView.{SeatView}
 use Rattle.forest.proofs.Deals.{opens}
+use Rattle.forest.proofs.Ruled.{first_once, plain_plot, ruled_to}
 use Rattle.forest.proofs.words.Words.open.Goals as goal
 
 pub words-requires-clause-room : goal.words-requires-clause-room
@@ -16,9 +21,10 @@ placed c words lay f same is holds w i = (λ k. slice_index (is k) (place (sym s
 
 pub of_words-requires : goal.of_words-requires
 of_words-requires g c =
-    let plot = c.args.plot.now in
+    let site = c.args.site.now in
     let laid = c.in_ok-words.ensures in
     let words = c.words-3 in
-    opens g.S.Shape.allows plot words.result.now _ (words.ensures.size ∙ ap table_size laid.layout)
-    (placed c.in_ok-words.words words.result.now plot.layout (opening_for plot.planting).words laid.layout words.ensures.words laid.words)
-    c.requires.run
+    let opened = opens g.S.Shape.allows (plain_plot g.S.Shape.allows site) words.result.now site.layout.passes (words.ensures.size ∙ ap table_size laid.layout)
+    (placed c.in_ok-words.words words.result.now site.layout (opening_for site.planting).words laid.layout words.ensures.words laid.words)
+    c.requires.run in
+    ruled_to g.S.Shape.allows site (λ holds. holds (opening words.result.now [] (first_of_table site))) c.requires.once (subst (λ (v : SeatView). TableIsLawful g.S.Shape.allows (plain_plot g.S.Shape.allows site) (opening words.result.now [] v)) (sym (first_once g.S.Shape.allows site c.requires.once)) opened)
