@@ -1,4 +1,4 @@
-use Rattle.std.proofs.Common.{◌∙◌, subst, sym}
+use Rattle.std.proofs.Common.{◌∙◌, sym}
 use Rattle.forest.proofs.Slotted.{place_of_table, word_of_table}
 use Rattle.forest.proofs.straight.hand.Hand.place_from.Goals as goal
 
