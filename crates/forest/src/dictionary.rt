@@ -374,8 +374,8 @@ impl<K: WordKey, V: WordValue, B: FixedBalance> Forest<Dict<K, V, B>> {
             number,
             size: Dict::<K, V, B>::node_size(),
         };
-        let seat = &mut pass.seat;
-        let reply = calls::read(hand, seat, alloc, self.tries, request);
+        let (seat, room) = (&mut pass.seat, &mut pass.room);
+        let reply = calls::read(hand, seat, room, alloc, self.tries, request);
         pass.blamed.note_reply(&reply);
         reply
     }

@@ -9,9 +9,11 @@ ghost use Rattle.forest.specs.Traces.{planting_of};
 ghost use Rattle.forest.specs.Passes.{PassView, taken_of};
 
 use crate::blamed::Blamed;
+use crate::room::Room;
 use crate::view::SeatView;
 use arena::{Layout, PassNo, Shape, Share};
 use atomic_table::Seat;
+use std::alloc::Global;
 use std::fmt;
 use std::marker::{Model, PhantomData};
 
@@ -24,6 +26,7 @@ pub struct Pass<S: Shape> {
     pub(crate) share: Share,
     pub(crate) seat: Seat<u8, SeatView>,
     pub(crate) blamed: Blamed,
+    pub(crate) room: Room,
     pub(crate) shape: PhantomData<S>,
 }
 
@@ -40,8 +43,14 @@ impl<S: Shape> Model for Pass<S> {
 }
 
 impl<S: Shape> Pass<S> {
-    /// A pass that has made no step, at a seat of its own.
-    pub(crate) fn new(layout: &Layout, number: PassNo, seat: Seat<u8, SeatView>) -> Pass<S>
+    /// A pass that has made no step, at a seat of its own. The lists that it keeps grow with this
+    /// allocator.
+    pub(crate) fn new(
+        alloc: Global,
+        layout: &Layout,
+        number: PassNo,
+        seat: Seat<u8, SeatView>,
+    ) -> Pass<S>
         requires seat { (seat.me.0.passes
             ≡ seated_pass number.0 layout.now (planting_of seat.me.0.passes)
             (all_dealt layout.now number.0) [] ∷ [])
@@ -66,6 +75,7 @@ impl<S: Shape> Pass<S> {
             share: Share::of(layout, number),
             seat,
             blamed: Blamed::new(),
+            room: Room::new(alloc),
             shape: PhantomData,
         }
     }
