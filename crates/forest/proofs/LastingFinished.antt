@@ -24,7 +24,6 @@ use Rattle.forest.specs.LastingMemory.{IsHeldName, IsNoteSo, IsOutForGood, Prese
 use Rattle.forest.specs.LastingNotes.{IsAmongThese, memory_done, memory_looked_at, memory_over, noted_as}
 use Rattle.forest.specs.LastingRule.{LearnsWith, TableLasts}
 use Rattle.forest.specs.declared.view.SeatView.{SeatView}
-use Rattle.forest.specs.declared.memory.PassMemory.{PassMemory}
 use Rattle.forest.specs.declared.memory.Noted.{Noted}
 use Rattle.forest.specs.declared.memory.NoteView.TheVariants.{DoneWith, MarkedOrDead}
 use Rattle.forest.specs.declared.memory.RecordNo.TheVariants.{Scx}

@@ -3,11 +3,10 @@ use Rattle.std.proofs.Common.{◌≡◌, ◌≢◌, ℕ, false, List, [], ◌∷
 use mathlib.Core.Option.{some}
 use lib.ListN.{get_elem?}
 use Rattle.atomic_table.specs.Table.{State}
-use Rattle.histories.specs.Common.{Layout, Row, History, IsRun}
+use Rattle.histories.specs.Common.{Layout, Row, History}
 use Rattle.arena.proofs.Lemmas.{ends_self}
 use Rattle.planting.specs.Plantings.{PlantingView}
 use Rattle.resting.specs.Rests.{HaveMovedOn, HaveRestedAt}
-use Rattle.slots.specs.Counts.{CountsRests}
 use Rattle.slots.specs.Held.{Held}
 use Rattle.slots.specs.Lasting.{Lasting}
 use Rattle.slots.specs.Window.{IsWindow}

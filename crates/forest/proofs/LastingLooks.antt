@@ -16,7 +16,6 @@ use Rattle.forest.specs.LastingMemory.{HasPolledSo, IsPollSo, Present, Remembers
 use Rattle.forest.specs.LastingNotes.{IsAmongThese, memory_looked, memory_polled, waits_of}
 use Rattle.forest.specs.LastingRule.{LearnsWith, TableLasts}
 use Rattle.forest.specs.declared.view.SeatView.{SeatView}
-use Rattle.forest.specs.declared.memory.PassMemory.{PassMemory}
 use Rattle.forest.specs.declared.memory.Polled.{Polled}
 use Rattle.forest.specs.declared.view.SeatedPass.{SeatedPass}
 use Rattle.forest.proofs.LastingKept.{Later, names_kept, spared}

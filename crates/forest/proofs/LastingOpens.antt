@@ -18,7 +18,6 @@ use Rattle.forest.specs.LastingOpening.{OpensLasting, first_memory, first_view, 
 use Rattle.forest.specs.declared.view.SeatView.{SeatView}
 use Rattle.forest.specs.declared.memory.RecordNo.{RecordNo}
 use Rattle.forest.specs.declared.memory.RecordNo.TheVariants.{Node, Scx}
-use Rattle.forest.specs.declared.rule.Plot.{Plot}
 use Rattle.forest.proofs.Deals.{owns_new}
 use Rattle.forest.proofs.LastingSlots.{one_record_owner, own_not_first}
 

@@ -1,25 +1,24 @@
 -- A rest, and to be away, keep the rule of a table that lasts.
-use Rattle.std.proofs.Common.{◌≡◌, ◌≢◌, ◌+◌, ◌*◌, ◌<◌, ℕ, suc, true≢false, eq-eqb, ne_eqb, List, [], ◌∷◌, None, slice_index, slice_set, inl, inr, ⊎_elim, refl, sym, ◌∙◌, ap, subst, arith}
+use Rattle.std.proofs.Common.{◌≡◌, ◌+◌, ◌*◌, ◌<◌, ℕ, suc, true≢false, eq-eqb, ne_eqb, List, [], ◌∷◌, slice_index, slice_set, inl, inr, ⊎_elim, refl, sym, ◌∙◌, ap, subst, arith}
 use Rattle.std.proofs.lemmas.List.{get_or-set_other}
 use Rattle.atomic_table.specs.Table.{Me, Allows, keeps}
-use Rattle.histories.specs.Common.{Layout, Row, Word, History, Extends, place, IsWord, IsTakenNode}
+use Rattle.histories.specs.Common.{Layout, Word, History, Extends, place, IsWord, IsTakenNode}
 use Rattle.arena.proofs.Lemmas.{ends_self}
 use Rattle.planting.specs.Plantings.{PlantingView}
 use Rattle.prims.specs.Moments.{AreFinished}
 use native.Mathlib.Decide.{ℕ_discrete}
-use Rattle.resting.specs.Records.{record_of, the_node}
+use Rattle.resting.specs.Records.{the_node}
 use Rattle.resting.specs.Rests.{HaveMovedOn, HaveRestedAt}
 use Rattle.slots.specs.Counts.{CountsRests, after_leaving, after_rest, rests_place, with_rest}
 use Rattle.slots.specs.Held.{Held, IsHeld}
 use Rattle.slots.specs.Lasting.{Lasting}
 use Rattle.slots.specs.Window.{IsWindow}
 use Rattle.slots.proofs.Lemmas.{leaves, place_inside, rest_other, rest_same, rests_more, seen_leaves, seen_rests}
-use Rattle.forest.specs.TableRule.{history_of, Owns, past_of, seat_view}
-use Rattle.forest.specs.LastingMemory.{AreHeldOrGone, Present, RememberWell, RemembersNames, RemembersWell, StaysUnborn, present}
+use Rattle.forest.specs.TableRule.{history_of, past_of, seat_view}
+use Rattle.forest.specs.LastingMemory.{AreHeldOrGone, Present, RemembersNames, RemembersWell, StaysUnborn, present}
 use Rattle.forest.specs.LastingNotes.{memory_away, memory_rested}
-use Rattle.forest.specs.LastingRule.{LearnsWith, LearnsWith, TableLasts, plot_in}
+use Rattle.forest.specs.LastingRule.{LearnsWith, LearnsWith, TableLasts}
 use Rattle.forest.specs.declared.view.SeatView.{SeatView}
-use Rattle.forest.specs.declared.memory.PassMemory.{PassMemory}
 use Rattle.forest.specs.declared.view.SeatedPass.{SeatedPass}
 use Rattle.forest.proofs.LastingKept.{Later, gone_kept, names_kept, spared}
 use Rattle.forest.proofs.LastingGhosts.{goes_on}

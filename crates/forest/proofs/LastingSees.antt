@@ -1,9 +1,7 @@
 -- What a pass sees of names keeps the rule of a table that lasts.
 use Rattle.std.proofs.Common.{◌≡◌, ◌<◌, ℕ, false, eq-eqb, ne_eqb, [], ◌∷◌, slice_index, inl, inr, refl, sym, ◌∙◌, ap, subst}
-use mathlib.Core.Option.{some}
-use lib.ListN.{get_elem?}
 use native.Mathlib.Decide.{ℕ_discrete}
-use Rattle.atomic_table.specs.Table.{Me, Act, Allows, Valid, carried_after, keeps, stepped, State}
+use Rattle.atomic_table.specs.Table.{Me, Act, Allows, Valid, carried_after, keeps, stepped}
 use Rattle.histories.specs.Common.{Layout, History, NodeNo, value, node, marked, IsTakenNode, Word, Extends, IsWord}
 use Rattle.arena.specs.declared.word.NodeWord.TheVariants.{Marked}
 use Rattle.arena.proofs.Lemmas.{ends_self}

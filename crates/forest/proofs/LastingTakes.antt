@@ -1,10 +1,10 @@
 -- A pass gives a slot that is clean its next name, under the rule of a table that lasts.
-use Rattle.std.proofs.Common.{◌≡◌, ◌≢◌, ◌+◌, ◌<◌, ◌≤◌, ◌⊎◌, ◌++◌, ℕ, suc, Bool, true, false, true≢false, List, [], ◌∷◌, Some, None, if◌then◌else◌, inl, inr, ⊎_elim, refl, sym, ◌∙◌, ap, subst, arith}
+use Rattle.std.proofs.Common.{◌≡◌, ◌≢◌, ◌+◌, ◌<◌, ◌≤◌, ◌⊎◌, ◌++◌, ℕ, suc, false, List, [], ◌∷◌, Some, None, inl, inr, ⊎_elim, refl, sym, ◌∙◌, ap, subst, arith}
 use mathlib.Core.Option.{some}
 use lib.ListN.{get_elem?}
 use native.Mathlib.Decide.{dec_lt}
 use Rattle.atomic_table.specs.Table.{State, Me, Allows, keeps}
-use Rattle.histories.specs.Common.{Layout, Row, Word, History, IsOwnNode, IsOwnScx, IsTakenNode, IsRun, Remaining}
+use Rattle.histories.specs.Common.{Layout, Row, History, IsOwnNode, IsOwnScx, IsTakenNode, IsRun, Remaining}
 use Rattle.arena.proofs.Lemmas.{ends_self}
 use Rattle.planting.specs.Plantings.{PlantingView}
 use Rattle.ordered_map.specs.Paths.{WasInTree}
@@ -12,12 +12,11 @@ use Rattle.prims.specs.Shares.{IsShare}
 use Rattle.resting.specs.Records.{Record, record_of, the_node, the_scx}
 use Rattle.resting.specs.Rests.{HaveMovedOn}
 use Rattle.slots.specs.Counts.{with_rest}
-use Rattle.slots.specs.Held.{Held, IsHeld, same_record, with_slot}
+use Rattle.slots.specs.Held.{Held, IsHeld, with_slot}
 use Rattle.slots.specs.Lasting.{IsOwnRecord, IsUntaken, Lasting, slot_of}
 use Rattle.slots.specs.Window.{IsWindow}
 use Rattle.slots.proofs.Lemmas.{none_passed, passes_over, record_discrete, rest_other, rest_same, seen_moves, takes, with_other, with_same}
 use Rattle.forest.specs.LastingSlots.{IsNotBefore}
-use Rattle.forest.specs.Passes.{Each}
 use Rattle.forest.specs.TableRule.{history_of, Owns, seat_view, seated_pass}
 use Rattle.forest.specs.LastingMemory.{AreHeldOrGone, IsDealt, IsEmptySlot, IsOutForGood, IsZeroWord, Present, RemembersNames, RemembersWell, StaysUnborn, present, record_at}
 use Rattle.forest.specs.LastingNames.{MayGiveName, memory_with, memory_with_node, memory_with_scx, node_ahead, past_nodes, past_scxs, scx_ahead}

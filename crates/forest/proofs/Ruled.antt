@@ -7,7 +7,7 @@ use Rattle.histories.specs.Common.{Layout, Mode, Word, History, IsTold, place, t
 use Rattle.planting.specs.Plantings.{PlantingView}
 use Rattle.forest.specs.LastingRule.{MayStepOn}
 use Rattle.forest.specs.Ruled.{IsRuled, MayLast, first_by, first_of_table, ruled_by}
-use Rattle.forest.specs.Slotted.{in_place, in_turns, plot_at, slots_by, slots_of_table}
+use Rattle.forest.specs.Slotted.{in_turns, plot_at, slots_by, slots_of_table}
 use Rattle.forest.specs.TableRule.{IsPlaceOf, Made, MayStep, TableIsLawful, first_of_seat, joined_seat, new_passes, rest_of_seat, seat_view}
 use Rattle.forest.specs.declared.rule.CallStep.{CallStep}
 use Rattle.forest.specs.declared.rule.Plot.{Plot}

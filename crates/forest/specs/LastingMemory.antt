@@ -1,6 +1,6 @@
 -- What passes of a table that lasts remember from one call to the next, and when it is so.
-use Rattle.std.specs.Prelude.{◌≡◌, ◌<◌, ◌⊎◌, ℕ, true, false, List, [], ◌∷◌, Option, Some, None, slice_index}
-use Rattle.histories.specs.Common.{Layout, Fill, Row, Step, Word, History, Extends, IsWord, IsTakenNode, place, log, is_final}
+use Rattle.std.specs.Prelude.{◌≡◌, ◌<◌, ◌⊎◌, ℕ, true, false, List, Option, Some, None, slice_index}
+use Rattle.histories.specs.Common.{Layout, Fill, Step, Word, History, Extends, IsWord, IsTakenNode, place, log, is_final}
 use Rattle.planting.specs.Plantings.{PlantingView}
 use Rattle.ordered_map.specs.Runs.{IsMapRun}
 use Rattle.touching.specs.Left.{HasLeft}

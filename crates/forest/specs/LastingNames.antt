@@ -1,12 +1,11 @@
 -- How a slot of a table that lasts gets its next name, and which are passed over on the way.
-use Rattle.std.specs.Prelude.{◌≡◌, ◌<◌, ◌+◌, if◌then◌else◌, ℕ, zero, suc, false, List, [], ◌∷◌}
+use Rattle.std.specs.Prelude.{◌≡◌, ◌<◌, ◌+◌, ℕ, zero, suc, false, List, [], ◌∷◌}
 use Rattle.histories.specs.Common.{Fill, Abort, Settled, Head, Seen, node, scx, state, Row, Word, ◌⊳◌, IsWord, Remaining}
 use Rattle.arena.specs.declared.word.ScxWord.TheVariants.{Plan}
 use Rattle.planting.specs.Plantings.{PlantingView}
 use Rattle.prims.specs.Moments.{AreFinished}
 use Rattle.prims.specs.Shares.{IsShare}
 use Rattle.resting.specs.Records.{Record, record_of}
-use Rattle.slots.specs.Held.{same_record}
 use Rattle.slots.specs.Lasting.{IsOwnName, Lasting, slot_of}
 use Rattle.slots.specs.Passing.{row_over}
 use Rattle.forest.specs.TableRule.{history_of, past_of}

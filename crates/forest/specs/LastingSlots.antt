@@ -1,6 +1,6 @@
 -- How slots of a table that lasts come to hold nothing.
 use Rattle.std.specs.Prelude.{◌≡◌, ◌≤◌, ◌%◌, if◌then◌else◌, ℕ, suc, List, [], ◌∷◌}
-use Rattle.histories.specs.Common.{Word, History, IsTakenNode, IsTakenScx, Remaining}
+use Rattle.histories.specs.Common.{Word, Remaining}
 use Rattle.resting.specs.Records.{Record, the_node, the_scx}
 use Rattle.slots.specs.Held.{same_record}
 use Rattle.slots.specs.Lasting.{Lasting}

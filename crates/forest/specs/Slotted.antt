@@ -1,7 +1,7 @@
 -- Where a table has the words of the records that its run names.
 use Rattle.std.specs.Prelude.{◌+◌, ◌*◌, ◌^◌, ◌%◌, ℕ, Option, Some, None, min}
 use Rattle.std.proofs.Math.Nat.{min-le_right}
-use Rattle.arena.specs.Layout.{node_start, scx_start, table_size}
+use Rattle.arena.specs.Layout.{node_start, scx_start}
 use Rattle.histories.specs.Common.{Layout, NodeNo, ScxNo, Word, Node, Scx, all_nodes, all_scx}
 use Rattle.slots.specs.Lasting.{Lasting, with_shares}
 use Rattle.forest.specs.declared.rule.Plot.{Plot}
@@ -41,12 +41,6 @@ names_of_table site = (slots_of_table site).lay
 -- that layout, and what is planted
 abbrev pub plot_at : Site → Plot
 plot_at site = record { layout = names_of_table site; planting = site.planting }
-
--- how many words the table has: if records come back, those in which rests are counted are behind
--- the others
-abbrev pub room_by : Layout → Option Turns → ℕ
-room_by lay None = table_size lay
-room_by lay (Some t) = table_size lay + 8 * lay.passes
 
 -- where the words of a node begin in its slot, and those of an SCX-record
 abbrev pub node_begins : Lasting → NodeNo → ℕ

@@ -1,6 +1,6 @@
 -- Calls of updates, of whatever machine updates: at a place of it, or before it has begun.
 use Rattle.std.specs.Prelude.{◌≡◌, ℕ, suc, ◌+◌, ◌-◌, ◌*◌, ◌≤◌, List, [], Option, Some, None, Result, Ok, Err}
-use Rattle.histories.specs.Common.{Layout, NodeWord, Ghosts as Machine, History, Remaining, ScxNo}
+use Rattle.histories.specs.Common.{NodeWord, Ghosts as Machine, History, Remaining, ScxNo}
 use Rattle.arena.specs.declared.machine.Shape.{Ghosts as Shape}
 use Rattle.atomic_table.specs.declared.shared.Seat.{Seat}
 use Rattle.template.specs.Common.{TreeAllows, HelpRun}

@@ -1,7 +1,7 @@
 -- Calls that are at a place of a walk, of whatever machine that walks.
 use Rattle.std.specs.Prelude.{◌≡◌, ◌⊎◌, ℕ, ◌+◌, ◌<◌, ◌≤◌, Bool, true, false, List}
 use Rattle.atomic_table.specs.declared.shared.Seat.{Seat}
-use Rattle.histories.specs.Common.{Layout, NodeNo, Step, History, value, Call, LoadChild, LoadSettled, Settled, Head as HeadWord, Side, child, node, head_of, Ghosts as Machine}
+use Rattle.histories.specs.Common.{NodeNo, Step, History, value, Call, LoadChild, LoadSettled, Settled, Head as HeadWord, Side, child, node, head_of, Ghosts as Machine}
 use Rattle.arena.specs.declared.head.Head.{Head}
 use Rattle.arena.specs.declared.machine.Shape.{Ghosts as Shape}
 use Rattle.template.specs.Common.{load, path_key, FoundBy, WalkIsTold, WalkWaits, IsPastRoot, Goal}

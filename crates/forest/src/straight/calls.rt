@@ -49,8 +49,7 @@ pub(crate) fn make<K: WordKey, V: WordValue, B: FixedBalance, G: EditGoal, R: Ed
 ) -> (Reply<K, V>, Share)
     requires table { IsAt hand seat.old }
     requires mode { hand.layout.now.mode ≡ map_mode (B.trie B.the) }
-    requires tries { 0 < tries }
-    requires small { IsSmallCall (edit_call G.goal R.rule edit) }
+    requires small { (0 < tries) × IsSmallCall (edit_call G.goal R.rule edit) }
     requires in_trie { G.trie edit.goal ≡ B.trie B.the }
     requires begins { (c : Call) × IsCallOf hand c
         × SeatCallBegins K.is_valid K.word_of V.is_valid V.word_of (B.trie B.the) c

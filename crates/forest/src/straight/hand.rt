@@ -1,7 +1,7 @@
 //! What the steps of a call have in hand.
 ghost use Rattle.std.specs.Prelude.{◌≡◌, ◌<◌, ⊤};
 ghost use Rattle.arena.specs.Layout.{all_nodes, all_scx, node_size, IsWord};
-ghost use Rattle.forest.specs.TableRule.{IsPlaceOf, IsTableOf};
+ghost use Rattle.forest.specs.TableRule.{IsTableOf};
 
 use crate::words::Words;
 use arena::{Layout, NodeNo, ScxNo, Shape, Word};
@@ -60,19 +60,6 @@ impl<'a, S: Shape> Hand<'a, S> {
         requires { IsWord (names self) word }
         ensures { result ≡ word_begins (hand_slots self.entry) word }
     {
-        match word {
-            Word::Node(node, _) => self.node_start(node),
-            Word::Scx(scx, _) => self.scx_start(scx),
-        }
-    }
-
-    /// The place of a word, whose node or SCX-record begins there.
-    #[inline(always)]
-    pub(crate) fn place_from(self, start: usize, word: Word) -> usize
-        requires word { IsWord (names self) word }
-        requires start { start ≡ word_begins (hand_slots self) word }
-        ensures { IsPlaceOf (hand_slots self.entry) word result }
-    {
-        self.layout.place_from(start, word)
+        self.layout.start_of(self.size, word)
     }
 }

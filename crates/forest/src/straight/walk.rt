@@ -301,8 +301,8 @@ fn step_by_key<S: Shape, M: CallMachine<S>>(
 ) -> Result<(Reached, u64), Found>
     requires table { IsAt hand seat.old }
     requires stands { AsksHead (hand_slots hand) place.trail place.at place.start }
-    requires asks { IsAskedFork goal (head_of word) }
-    requires told { (w : Walker (hand_calls S.Shape M.Machine M.left_dealt hand))
+    requires told { IsAskedFork goal (head_of word)
+        × (w : Walker (hand_calls S.Shape M.Machine M.left_dealt hand))
         × WalkerHasHead w seat.old.me.0.passes way goal place word }
     ensures table { StaysAtTable seat.old seat.new }
     ensures stands { IfOk result (λ to.
@@ -312,12 +312,11 @@ fn step_by_key<S: Shape, M: CallMachine<S>>(
         ≤ walk_left place.at (room way (shared_nodes (names hand.entry)))) }
     ensures steps { MatchResult result (λ _. steps_made seat.new ≡ steps_made seat.old + 3)
         (λ _. steps_made seat.new ≡ suc (steps_made seat.old)) }
-    ensures told { IfOk result (λ to.
-        (w : Walker (hand_calls S.Shape M.Machine M.left_dealt hand.entry))
+    ensures goes { MatchResult result
+        (λ to. (w : Walker (hand_calls S.Shape M.Machine M.left_dealt hand.entry))
         → WalkerHasHead w seat.old.me.0.passes way goal place word
-        → WalkerHasHead w seat.new.me.0.passes way goal to.0 to.1) }
-    ensures finds { IfErr result (λ found.
-        (w : Walker (hand_calls S.Shape M.Machine M.left_dealt hand.entry))
+        → WalkerHasHead w seat.new.me.0.passes way goal to.0 to.1)
+        (λ found. (w : Walker (hand_calls S.Shape M.Machine M.left_dealt hand.entry))
         → WalkerHasHead w seat.old.me.0.passes way goal place word
         → WalkerFinds w seat.new.me.0.passes way goal place.turns found) }
 {
@@ -354,17 +353,17 @@ fn descend_by_keys<S: Shape, M: CallMachine<S>>(
         AsksHead (hand_slots hand.entry) to.0.trail to.0.at to.0.start) }
     ensures open { IfOk result (λ to.
         (head_of to.1).leaf ≡ false → asks_key goal (head_of to.1) ≡ false) }
-    ensures nearer { IfOk result (λ to. WalksNearer seat.old seat.new
+    ensures nearer { MatchResult result
+        (λ to. WalksNearer seat.old seat.new
         (walk_left first.at (room way (shared_nodes (names hand.entry))))
-        (walk_left to.0.at (room way (shared_nodes (names hand.entry))))) }
-    ensures steps { IfErr result (λ _. steps_made seat.new ≤ steps_made seat.old
+        (walk_left to.0.at (room way (shared_nodes (names hand.entry)))))
+        (λ _. steps_made seat.new ≤ steps_made seat.old
         + walk_left first.at (room way (shared_nodes (names hand.entry)))) }
-    ensures told { IfOk result (λ to.
-        (w : Walker (hand_calls S.Shape M.Machine M.left_dealt hand.entry))
+    ensures goes { MatchResult result
+        (λ to. (w : Walker (hand_calls S.Shape M.Machine M.left_dealt hand.entry))
         → WalkerHasHead w seat.old.me.0.passes way goal first head
-        → WalkerHasHead w seat.new.me.0.passes way goal to.0 to.1) }
-    ensures finds { IfErr result (λ ends.
-        (w : Walker (hand_calls S.Shape M.Machine M.left_dealt hand.entry))
+        → WalkerHasHead w seat.new.me.0.passes way goal to.0 to.1)
+        (λ ends. (w : Walker (hand_calls S.Shape M.Machine M.left_dealt hand.entry))
         → WalkerHasHead w seat.old.me.0.passes way goal first head
         → WalkerFinds w seat.new.me.0.passes way goal ends.1 ends.0) }
 {
@@ -403,9 +402,10 @@ fn pass_open<S: Shape, M: CallMachine<S>>(
     ensures table { StaysAtTable seat.old seat.new }
     ensures steps { MatchResult result (λ _. steps_made seat.new ≡ steps_made seat.old)
         (λ _. steps_made seat.new ≤ steps_made seat.old + 7) }
-    ensures down { IfOk result (λ to. WalkGoesDown S.Shape M.Machine M.left_dealt hand.entry
-        seat.old (way_at way goal trail at) word seat.new to.0 to.1) }
-    ensures finds { IfErr result (WalkFinds S.Shape M.Machine M.left_dealt hand.entry seat.old
+    ensures goes { MatchResult result
+        (λ to. WalkGoesDown S.Shape M.Machine M.left_dealt hand.entry
+        seat.old (way_at way goal trail at) word seat.new to.0 to.1)
+        (WalkFinds S.Shape M.Machine M.left_dealt hand.entry seat.old
         (way_at way goal trail at) word seat.new) }
 {
     if is_leaf(word) {

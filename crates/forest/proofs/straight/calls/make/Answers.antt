@@ -28,7 +28,7 @@ abbrev first : (g : Over) (c : After-goal-goal g) → DictRun g.row.K.Denot g.ro
 first g c = edit_machine g.G.EditGoal.goal g.G.EditGoal.trie g.R.EditRule.rule c.args.tries (update g c)
 
 is_fresh : (g : Over) (c : After-goal-goal g) → IsFreshCall (g.B.Balance.trie g.B.FixedBalance.the) (edit_call g.G.EditGoal.goal g.R.EditRule.rule c.args.edit) c.args.share c.args.tries c.args.hand.number (first g c)
-is_fresh g c = edit_fresh g.G.EditGoal.goal g.G.EditGoal.trie g.R.EditRule.rule c.args.share c.args.tries c.args.hand.number c.requires.tries (update g c) c.args.edit refl refl refl refl refl c.requires.small (g.B.Balance.trie g.B.FixedBalance.the) c.requires.in_trie
+is_fresh g c = edit_fresh g.G.EditGoal.goal g.G.EditGoal.trie g.R.EditRule.rule c.args.share c.args.tries c.args.hand.number c.requires.small.0 (update g c) c.args.edit refl refl refl refl refl c.requires.small.1 (g.B.Balance.trie g.B.FixedBalance.the) c.requires.in_trie
 
 may_begin : (g : Over) (c : After-goal-goal g) (k : Call) (lay : k.layout ≡ (names c.args.hand)) (number : k.number ≡ c.args.hand.number) → SeatCallBegins g.K.WordKey.is_valid g.K.WordKey.word_of g.V.WordValue.is_valid g.V.WordValue.word_of (g.B.Balance.trie g.B.FixedBalance.the) k c.args.seat.now.me.0.passes (edit_call g.G.EditGoal.goal g.R.EditRule.rule c.args.edit) c.args.share c.args.tries c.args.hand.number → UpdaterBegins (editor g.K.WordKey.is_valid g.K.WordKey.word_of g.V.WordValue.is_valid g.V.WordValue.word_of (first g c) k (names c.args.hand) c.args.hand.number lay number g.G.EditGoal.goal g.G.EditGoal.trie g.R.EditRule.rule) c.args.seat.now.me.0.passes (update g c)
 may_begin g c k lay number x = edit_begins g.K.WordKey.is_valid g.K.WordKey.word_of g.V.WordValue.is_valid g.V.WordValue.word_of (first g c) k (names c.args.hand) c.args.hand.number lay number g.G.EditGoal.goal g.G.EditGoal.trie g.R.EditRule.rule _ (update g c) refl (x (first g c) (is_fresh g c))
@@ -42,7 +42,7 @@ returns-clause-steps g c =
     let call = edit_call g.G.EditGoal.goal g.R.EditRule.rule c.args.edit in
     let all = edit_steps g.G.EditGoal.goal g.G.EditGoal.trie g.R.EditRule.rule c.args.edit c.args.tries nodes in
     subst (λ n. seat_steps c.make-updated.new.seat.me.0.passes ≤ seat_steps c.args.seat.now.me.0.passes + n) (all ∙ ap (λ t. most_steps call c.args.tries (nodes_by t nodes)) c.requires.in_trie)
-    (tries_steps _ _ _ c.args.tries (try_left (key_means g.G.EditGoal.goal g.G.EditGoal.trie g.R.EditRule.rule) c.args.edit nodes) c.requires.tries refl c.make-updated.ensures.steps)
+    (tries_steps _ _ _ c.args.tries (try_left (key_means g.G.EditGoal.goal g.G.EditGoal.trie g.R.EditRule.rule) c.args.edit nodes) c.requires.small.0 refl c.make-updated.ensures.steps)
 
 pub returns-clause-ends : goal.returns-clause-ends
 returns-clause-ends g c = λ call fits x.

@@ -1,4 +1,4 @@
-use Rattle.std.proofs.Common.{◌∙◌, refl, arith}
+use Rattle.std.proofs.Common.{◌∙◌, refl, arith, rules}
 use Rattle.forest.specs.Traces.{shared_nodes}
 use Rattle.forest.specs.Hands.{names}
 use Rattle.template.specs.Walk.Places.{way_at}
@@ -13,7 +13,7 @@ pub step_by_key-requires-clause-stands : goal.step_by_key-requires-clause-stands
 step_by_key-requires-clause-stands g c = record { place = c.loop-way.invariant.loads; begins = c.loop-way.invariant.start }
 
 pub step_by_key-requires-clause-told : goal.step_by_key-requires-clause-told
-step_by_key-requires-clause-told g c = let r = c.requires.told in (r.0, c.loop-way.invariant.told r.0 r.1)
+step_by_key-requires-clause-told g c = let r = c.requires.told in (search rules, r.0, c.loop-way.invariant.told r.0 r.1)
 
 pub loop-way-smaller : goal.loop-way-smaller
 loop-way-smaller g c = let few = c.in-Ok.ensures.nearer in omega (arith, few)
@@ -27,18 +27,18 @@ loop-way-preserved g c =
       start = c.in-Ok.ensures.stands.begins;
       nearer = omega (arith, few, near);
       steps = omega (arith, few, all, old);
-      told = λ w x. c.in-Ok.ensures.told w (c.loop-way.invariant.told w x);
+      told = λ w x. c.in-Ok.ensures.goes w (c.loop-way.invariant.told w x);
     }
 
-pub returns-in-Err-clause-steps : goal.returns-in-Err-clause-steps
-returns-in-Err-clause-steps g c =
+pub returns-in-Err-clause-nearer : goal.returns-in-Err-clause-nearer
+returns-in-Err-clause-nearer g c =
     let r = c.requires.told in
     let few = some_left c.loop-way.place.at c.loop-way.word (room c.args.way (shared_nodes (names c.args.hand))) c.loop-way.invariant.loads (fits r.0 _ (way_at c.args.way c.args.goal c.loop-way.place.trail c.loop-way.place.at) c.loop-way.place.turns c.loop-way.word (c.loop-way.invariant.told r.0 r.1)) in
     let one = c.in-Err.ensures.steps in let old = c.loop-way.invariant.steps in
     omega (arith, few, one, old)
 
-pub returns-in-Err-clause-finds : goal.returns-in-Err-clause-finds
-returns-in-Err-clause-finds g c = λ w x. c.in-Err.ensures.finds w (c.loop-way.invariant.told w x)
+pub returns-in-Err-clause-goes : goal.returns-in-Err-clause-goes
+returns-in-Err-clause-goes g c = λ w x. c.in-Err.ensures.goes w (c.loop-way.invariant.told w x)
 
 pub returns-clause-stands : goal.returns-clause-stands
 returns-clause-stands g c = record { place = c.loop-way.invariant.loads; begins = c.loop-way.invariant.start }
@@ -46,5 +46,5 @@ returns-clause-stands g c = record { place = c.loop-way.invariant.loads; begins 
 pub returns-clause-nearer : goal.returns-clause-nearer
 returns-clause-nearer g c = record { nearer = c.loop-way.invariant.nearer; steps = c.loop-way.invariant.steps }
 
-pub returns-clause-told : goal.returns-clause-told
-returns-clause-told g c = λ w x. c.loop-way.invariant.told w x
+pub returns-clause-goes : goal.returns-clause-goes
+returns-clause-goes g c = λ w x. c.loop-way.invariant.told w x

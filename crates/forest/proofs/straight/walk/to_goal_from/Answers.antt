@@ -33,34 +33,34 @@ pub descend_by_keys-requires-clause-told : goal.descend_by_keys-requires-clause-
 descend_by_keys-requires-clause-told g c = let r = c.requires.waits in (r.0, told g (goal.at.descend_by_keys-requires-clause-told g c).After-read-head r.0 r.1)
 
 pub returns-in-Err-clause-steps : goal.returns-in-Err-clause-steps
-returns-in-Err-clause-steps g c = let one = c.read-head.ensures.one in let last = c.in-Err.ensures.steps in let old = c.loop-below.invariant.steps in omega (arith, one, last, old)
+returns-in-Err-clause-steps g c = let one = c.read-head.ensures.one in let last = c.in-Err.ensures.nearer in let old = c.loop-below.invariant.steps in omega (arith, one, last, old)
 
 pub returns-in-Err-clause-finds : goal.returns-in-Err-clause-finds
-returns-in-Err-clause-finds g c = λ w x. c.in-Err.ensures.finds w (told g (goal.at.returns-in-Err-clause-finds g c).After-read-head w x)
+returns-in-Err-clause-finds g c = λ w x. c.in-Err.ensures.goes w (told g (goal.at.returns-in-Err-clause-finds g c).After-read-head w x)
 
 pub pass_open-requires-clause-told : goal.pass_open-requires-clause-told
-pass_open-requires-clause-told g c = let r = c.requires.waits in (r.0, c.in-Ok.below.0.turns, c.in-Ok.ensures.told r.0 (told g (goal.at.pass_open-requires-clause-told g c).After-read-head r.0 r.1))
+pass_open-requires-clause-told g c = let r = c.requires.waits in (r.0, c.in-Ok.below.0.turns, c.in-Ok.ensures.goes r.0 (told g (goal.at.pass_open-requires-clause-told g c).After-read-head r.0 r.1))
 
 pub returns-in-Err-pass_open-clause-steps : goal.returns-in-Err-pass_open-clause-steps
 returns-in-Err-pass_open-clause-steps g c =
     let r = c.requires.waits in
     let few = some_left c.in-Ok.below.0.at c.in-Ok.below.1 (room c.args.way (shared_nodes (names c.args.hand))) c.in-Ok.ensures.stands.place
-    (fits r.0 _ (way_at c.args.way c.args.goal c.in-Ok.below.0.trail c.in-Ok.below.0.at) c.in-Ok.below.0.turns c.in-Ok.below.1 (c.in-Ok.ensures.told r.0 (told g (goal.at.returns-in-Err-pass_open-clause-steps g c).After-read-head r.0 r.1))) in
+    (fits r.0 _ (way_at c.args.way c.args.goal c.in-Ok.below.0.trail c.in-Ok.below.0.at) c.in-Ok.below.0.turns c.in-Ok.below.1 (c.in-Ok.ensures.goes r.0 (told g (goal.at.returns-in-Err-pass_open-clause-steps g c).After-read-head r.0 r.1))) in
     let one = c.read-head.ensures.one in let more = c.in-Ok.ensures.nearer.steps in let last = c.in-Err-pass_open.ensures.steps in let old = c.loop-below.invariant.steps in
     omega (arith, few, one, more, last, old)
 
 pub returns-in-Err-pass_open-clause-finds : goal.returns-in-Err-pass_open-clause-finds
-returns-in-Err-pass_open-clause-finds g c = λ w x. c.in-Err-pass_open.ensures.finds w c.in-Ok.below.0.turns (c.in-Ok.ensures.told w (told g (goal.at.returns-in-Err-pass_open-clause-finds g c).After-read-head w x))
+returns-in-Err-pass_open-clause-finds g c = λ w x. c.in-Err-pass_open.ensures.goes w c.in-Ok.below.0.turns (c.in-Ok.ensures.goes w (told g (goal.at.returns-in-Err-pass_open-clause-finds g c).After-read-head w x))
 
 pub descend-place-requires-clause-waits : goal.descend-place-requires-clause-waits
 descend-place-requires-clause-waits g c = let r = c.requires.waits in
-    (r.0, rw c.with_turn-turns.ensures (c.in-Ok-pass_open.ensures.down r.0 c.in-Ok.below.0.turns (c.in-Ok.ensures.told r.0 (told g (goal.at.descend-place-requires-clause-waits g c).After-read-head r.0 r.1))))
+    (r.0, rw c.with_turn-turns.ensures (c.in-Ok-pass_open.ensures.goes r.0 c.in-Ok.below.0.turns (c.in-Ok.ensures.goes r.0 (told g (goal.at.descend-place-requires-clause-waits g c).After-read-head r.0 r.1))))
 
 pub loop-below-smaller : goal.loop-below-smaller
 loop-below-smaller g c =
     let r = c.requires.waits in
     let few = fewer c.in-Ok.below.0.at c.in-Ok.below.1 (room c.args.way (shared_nodes (names c.args.hand))) (head_of c.in-Ok.below.1) c.in-Ok.ensures.stands.place refl
-    (fits r.0 _ (way_at c.args.way c.args.goal c.in-Ok.below.0.trail c.in-Ok.below.0.at) c.in-Ok.below.0.turns c.in-Ok.below.1 (c.in-Ok.ensures.told r.0 (told g (goal.at.loop-below-smaller g c).After-read-head r.0 r.1))) c.descend-place.ensures.below.deep in
+    (fits r.0 _ (way_at c.args.way c.args.goal c.in-Ok.below.0.trail c.in-Ok.below.0.at) c.in-Ok.below.0.turns c.in-Ok.below.1 (c.in-Ok.ensures.goes r.0 (told g (goal.at.loop-below-smaller g c).After-read-head r.0 r.1))) c.descend-place.ensures.below.deep in
     let near = c.in-Ok.ensures.nearer.nearer in
     rw c.descend-place.ensures.below.at (omega (arith, few, near))
 
@@ -72,9 +72,9 @@ loop-below-preserved g c = record {
   steps = (
       let r = c.requires.waits in
       let few = fewer c.in-Ok.below.0.at c.in-Ok.below.1 (room c.args.way (shared_nodes (names c.args.hand))) (head_of c.in-Ok.below.1) c.in-Ok.ensures.stands.place refl
-      (fits r.0 _ (way_at c.args.way c.args.goal c.in-Ok.below.0.trail c.in-Ok.below.0.at) c.in-Ok.below.0.turns c.in-Ok.below.1 (c.in-Ok.ensures.told r.0 (told g (goal.at.loop-below-preserved g c).After-read-head r.0 r.1))) c.descend-place.ensures.below.deep in
+      (fits r.0 _ (way_at c.args.way c.args.goal c.in-Ok.below.0.trail c.in-Ok.below.0.at) c.in-Ok.below.0.turns c.in-Ok.below.1 (c.in-Ok.ensures.goes r.0 (told g (goal.at.loop-below-preserved g c).After-read-head r.0 r.1))) c.descend-place.ensures.below.deep in
       let one = c.read-head.ensures.one in let more = c.in-Ok.ensures.nearer.steps in let side = c.in-Ok-pass_open.ensures.steps in let last = c.descend-place.ensures.one in let old = c.loop-below.invariant.steps in
       rw c.descend-place.ensures.below.at (omega (arith, few, one, more, side, last, old))
       );
-  waits = λ w x. c.descend-place.ensures.down w (rw c.with_turn-turns.ensures (c.in-Ok-pass_open.ensures.down w c.in-Ok.below.0.turns (c.in-Ok.ensures.told w (told g (goal.at.loop-below-preserved g c).After-read-head w x))));
+  waits = λ w x. c.descend-place.ensures.down w (rw c.with_turn-turns.ensures (c.in-Ok-pass_open.ensures.goes w c.in-Ok.below.0.turns (c.in-Ok.ensures.goes w (told g (goal.at.loop-below-preserved g c).After-read-head w x))));
 }
