@@ -172,8 +172,7 @@ pub(crate) fn read<K: WordKey, V: WordValue, B: FixedBalance>(
 ) -> Reply<K, V>
     requires table { IsAt hand seat.old }
     requires mode { hand.layout.now.mode ≡ map_mode (B.trie B.the) }
-    requires tries { 0 < tries }
-    requires ordered { KeepsLists (as_map_call K.word_of V.word_of request) }
+    requires ordered { (0 < tries) × KeepsLists (as_map_call K.word_of V.word_of request) }
     requires begins { (c : Call) × (share : Remaining) × IsCallOf hand c
         × SeatCallBegins K.is_valid K.word_of V.is_valid V.word_of (B.trie B.the) c
         seat.old.me.0.passes (as_map_call K.word_of V.word_of request) share tries hand.number }

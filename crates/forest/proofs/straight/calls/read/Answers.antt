@@ -15,7 +15,7 @@ range_of low high most l h m is_low is_high is_most i = Range (is_low i) (is_hig
 
 -- the machine of a range has not begun
 visits : (g : Over) (c : After-range_run-run g) (share : Remaining) → IsFreshCall {K = g.row.K.Denot} {V = g.row.V.Denot} (g.B.Balance.trie g.B.FixedBalance.the) (as_map_call g.K.WordKey.word_of g.V.WordValue.word_of c.args.request) share c.args.tries c.args.hand.number (read_machine ranges c.args.tries share c.range_run-run.result)
-visits g c share = rw c.in-Range.is (read_fresh ranges share c.args.tries c.args.hand.number (Range (g.K.WordKey.word_of c.in-Range.low) (g.K.WordKey.word_of c.in-Range.high) c.in-Range.most) c.requires.tries c.range_run-run.result
+visits g c share = rw c.in-Range.is (read_fresh ranges share c.args.tries c.args.hand.number (Range (g.K.WordKey.word_of c.in-Range.low) (g.K.WordKey.word_of c.in-Range.high) c.in-Range.most) c.requires.ordered.0 c.range_run-run.result
     (range_of _ _ _ _ _ _ (c.range_run-run.ensures.low ∙ c.word.ensures) (c.range_run-run.ensures.high ∙ c.word-in-Range.ensures) c.range_run-run.ensures.most) (g.B.Balance.trie g.B.FixedBalance.the) (rw (sym c.in_trie.ensures) c.range_run-run.ensures.fresh) (λ few. (g.met.K.WordKey.fits c.in-Range.high c.valid.ensures, few)))
 
 pub call-told-requires-clause-begins : goal.call-told-requires-clause-begins
