@@ -23,9 +23,8 @@ use texts::Metered;
 /// and prints the outcome to `out`; a fault goes to `err` as one line. Answers the exit status: 0, 1 where the
 /// script is refused, 2 for a gate of no such name, 3 for want of memory, 4 where a read or a write
 /// failed. A refused script, or gate, leaves `out` as it was.
-pub fn run_over<R: Threads + Wait + Sync, S: Read, O: Write, E: Write>(
+pub fn run_over<R: AllocGlobal + Threads + Wait + Sync, S: Read, O: Write, E: Write>(
     rt: &R,
-    alloc: Global,
     trie: bool,
     gate: &str,
     script: &mut Metered<S>,
@@ -46,7 +45,7 @@ pub fn run_over<R: Threads + Wait + Sync, S: Read, O: Write, E: Write>(
     ensures refused { (result ≡ 1) ⊎ (result ≡ 2) → out.new ≡ out.old }
     ensures status { result ≤ 4 }
 {
-    match run_gated(rt, alloc, trie, gate, script, out) {
+    match run_gated(rt, rt.alloc(), trie, gate, script, out) {
         Ok(()) => 0,
         Err(fault) => fault.print(err),
     }
