@@ -1,6 +1,6 @@
 use Rattle.std.proofs.Common.{◌≡◌, rules}
-use Rattle.player.proofs.Commands.{call_at}
-use Rattle.player.proofs.place.next_call.Goals as goal
+use Rattle.record.proofs.Commands.{call_at}
+use Rattle.record.proofs.calls.next_call.Goals as goal
 
 pub returns-then-eq : goal.returns-then-eq
 returns-then-eq c =
