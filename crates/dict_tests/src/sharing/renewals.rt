@@ -197,8 +197,8 @@ fn next<B: FixedBalance>(
     Ok((forest, passes))
 }
 
-/// The passes work, each in a thread of its own, on a dictionary that began with these pairs. Those that are left are what they
-/// say, and the next dictionary begins with them.
+/// The passes work, each in a thread of its own, on a dictionary that began with these pairs. Those
+/// that are left are what they say, and the next dictionary begins with them.
 fn renewed<R: Threads + Sync + Abort, B: FixedBalance + Send + Sync>(
     rt: &R,
     alloc: Global,
