@@ -236,7 +236,7 @@ fn push_each(rows: &mut Vec<Row>, made: &[Made]) -> Result<(), AllocError> {
 
 fn push(rows: &mut Vec<Row>, group: Group) -> Result<(), AllocError> {
     match group {
-        One(made) => rows.push(row(made)),
+        One(made) => push_each(rows, &[made]),
         Look(client, node, scx, state, left) => {
             push_each(rows, &look(client, node, scx, state, left))
         }
