@@ -11,7 +11,7 @@ use Rattle.record.specs.declared.record.TurnRow.TheVariants.{Step as Made, Idle}
 use Rattle.record.specs.declared.record.Entry.{Entry}
 use Rattle.record.specs.declared.record.Finished.{Finished}
 use Rattle.record.proofs.Lemmas.{get_other, get_own}
-use Rattle.audit.specs.Calls.{StandsNext}
+use Rattle.record.specs.Commands.{IsNextCallAt}
 use Rattle.audit.specs.After.{IsClientAfter, AreClientsAfter}
 use Rattle.audit.specs.declared.client.ClientState.{ClientState}
 use Rattle.audit.proofs.NextCalls.{next_place}
@@ -59,7 +59,7 @@ module _ (lay : Layout) (calls : List Call) (lines : List Line) where
 
   pub record IsStepped (number : ℕ) (row : StepRow) (j : ℕ) (c : ClientState) : Type 0 where
     pub pass : c.pass.0 ≡ j
-    pub place : StandsNext calls j (drop c.answered (commands calls j)) c.at
+    pub place : IsNextCallAt calls j (drop c.answered (commands calls j)) c.at
     pub answered : c.answered ≡ answered lines j
     pub begun : c.begun ≡ begin (Step (Made number row) ∷ lines) j
     pub steps : c.steps ≡ steps (Step (Made number row) ∷ lines) j
@@ -128,10 +128,10 @@ module _ (lay : Layout) (calls : List Call) (lines : List Line) where
       let y = x j c get in
       record { pass = y.pass; place = y.place; answered = y.answered; begun = y.begun; steps = y.steps; won = y.won }
 
-  ended_own : (r : Finished) (c : ClientState) (next : Option ℕ) → ((left : List Command) → StandsNext calls c.pass.0 left c.at → StandsNext calls c.pass.0 (drop 1 left) next) → IsClientAfter lay calls lines r.client.0 c → IsClientAfter lay calls (ReplyLine r ∷ lines) r.client.0 (record c { at = next; answered = c.answered + 1; begun = None; steps = 0; won = None })
+  ended_own : (r : Finished) (c : ClientState) (next : Option ℕ) → ((left : List Command) → IsNextCallAt calls c.pass.0 left c.at → IsNextCallAt calls c.pass.0 (drop 1 left) next) → IsClientAfter lay calls lines r.client.0 c → IsClientAfter lay calls (ReplyLine r ∷ lines) r.client.0 (record c { at = next; answered = c.answered + 1; begun = None; steps = 0; won = None })
   ended_own r c next behind x = record {
     pass = x.pass;
-    place = subst (λ (n : ℕ). StandsNext calls r.client.0 (drop n (commands calls r.client.0)) next) (sym (add-one c.answered)) (next_place calls r.client.0 c.answered next (subst (λ (k : ℕ). StandsNext calls k (drop 1 (drop c.answered (commands calls r.client.0))) next) x.pass (behind (drop c.answered (commands calls r.client.0)) (subst (λ (k : ℕ). StandsNext calls k (drop c.answered (commands calls r.client.0)) c.at) (sym x.pass) x.place))));
+    place = subst (λ (n : ℕ). IsNextCallAt calls r.client.0 (drop n (commands calls r.client.0)) next) (sym (add-one c.answered)) (next_place calls r.client.0 c.answered next (subst (λ (k : ℕ). IsNextCallAt calls k (drop 1 (drop c.answered (commands calls r.client.0))) next) x.pass (behind (drop c.answered (commands calls r.client.0)) (subst (λ (k : ℕ). IsNextCallAt calls k (drop c.answered (commands calls r.client.0)) c.at) (sym x.pass) x.place))));
     answered = rw (eq-eqb r.client.0 r.client.0 refl, x.answered) (add-one (answered lines r.client.0));
     begun = rw (eq-eqb r.client.0 r.client.0 refl) refl;
     steps = rw (eq-eqb r.client.0 r.client.0 refl) refl;
@@ -148,7 +148,7 @@ module _ (lay : Layout) (calls : List Call) (lines : List Line) where
     won = rw (ne_eqb r.client.0 j d) x.won;
   }
 
-  pub ended_clients : (r : Finished) (clients : List ClientState) (c : ClientState) (next : Option ℕ) → slice_get clients r.client.0 ≡ Some c → ((left : List Command) → StandsNext calls c.pass.0 left c.at → StandsNext calls c.pass.0 (drop 1 left) next) → AreClientsAfter lay calls lines clients → AreClientsAfter lay calls (ReplyLine r ∷ lines) (set clients r.client.0 (record c { at = next; answered = c.answered + 1; begun = None; steps = 0; won = None }))
+  pub ended_clients : (r : Finished) (clients : List ClientState) (c : ClientState) (next : Option ℕ) → slice_get clients r.client.0 ≡ Some c → ((left : List Command) → IsNextCallAt calls c.pass.0 left c.at → IsNextCallAt calls c.pass.0 (drop 1 left) next) → AreClientsAfter lay calls lines clients → AreClientsAfter lay calls (ReplyLine r ∷ lines) (set clients r.client.0 (record c { at = next; answered = c.answered + 1; begun = None; steps = 0; won = None }))
   ended_clients r clients c next there behind x = with_one (λ j d. IsClientAfter lay calls (ReplyLine r ∷ lines) j d) clients r.client.0 c _ there (ended_own r c next behind (x r.client.0 c there)) (λ j d n get. ended_other r j d (λ q. n (sym q)) (x j d get))
 
 -- The start
@@ -159,7 +159,7 @@ got_more [] x (suc j) y e = absurd (let z : None ≡ Some y = e in cc)
 got_more (z ∷ xs) x zero y e = inl e
 got_more (z ∷ xs) x (suc j) y e = ⊎_elim (λ q. inl q) (λ q. inr (ap suc q.0, q.1)) (got_more xs x j y e)
 
-pub clients_more : (lay : Layout) (calls : List Call) (xs new : List ClientState) (n : ℕ) (c : ClientState) → length xs ≡ n → AreClientsAfter lay calls [] xs → StandsNext calls n (commands (drop 0 calls) n) c.at → c ≡ record { pass = record { 0 = n }; at = c.at; answered = 0; begun = None; steps = 0; won = None } → new ≡ xs ++ c ∷ [] → (length new ≡ n + 1) × AreClientsAfter lay calls [] new
+pub clients_more : (lay : Layout) (calls : List Call) (xs new : List ClientState) (n : ℕ) (c : ClientState) → length xs ≡ n → AreClientsAfter lay calls [] xs → IsNextCallAt calls n (commands (drop 0 calls) n) c.at → c ≡ record { pass = record { 0 = n }; at = c.at; answered = 0; begun = None; steps = 0; won = None } → new ≡ xs ++ c ∷ [] → (length new ≡ n + 1) × AreClientsAfter lay calls [] new
 clients_more lay calls xs new n c many x at is pushed = (
   ap length pushed ∙ length_push xs c ∙ ap (λ (k : ℕ). k + 1) many,
   λ j d get. ⊎_elim (λ q. x j d q) (λ q. subst (λ (k : ClientState). IsClientAfter lay calls [] j k) (some_client c d q.1) (subst (λ (k : ℕ). IsClientAfter lay calls [] k c) (sym (q.0 ∙ many)) first)) (got_more xs c j d (subst (λ (l : List ClientState). slice_get l j ≡ Some d) pushed get)),
@@ -168,7 +168,7 @@ clients_more lay calls xs new n c many x at is pushed = (
     first : IsClientAfter lay calls [] n c
     first = record {
       pass = ap (λ (k : ClientState). k.pass.0) is;
-      place = subst (λ (k : ℕ). StandsNext calls n (drop k (commands calls n)) c.at) (sym (ap (λ (k : ClientState). k.answered) is)) at;
+      place = subst (λ (k : ℕ). IsNextCallAt calls n (drop k (commands calls n)) c.at) (sym (ap (λ (k : ClientState). k.answered) is)) at;
       answered = ap (λ (k : ClientState). k.answered) is;
       begun = ap (λ (k : ClientState). k.begun) is;
       steps = ap (λ (k : ClientState). k.steps) is;

@@ -23,7 +23,7 @@ use Rattle.record.specs.LawfulRun.{IsWhole}
 use Rattle.record.specs.Replies.{IsReply}
 use Rattle.record.specs.Steps.{IsStep, IsIdleTurn, SaysItsCall}
 use Rattle.record.proofs.Lemmas.{get_there}
-use Rattle.audit.specs.Calls.{StandsNext}
+use Rattle.record.specs.Commands.{IsNextCallAt}
 use Rattle.audit.proofs.AfterLines.{idle_clients, log_clients, ended_clients, AreStepped, stepped_clients, unwon_clients, won_clients}
 use Rattle.judge.specs.Histories.{Judged, seen_history}
 use Rattle.audit.specs.After.{IsAfter, IsSoFar, IsClientAfter, AreClientsAfter, lines_of, layout_of, tries_of, calls_of, is_idle, pass_number, IsMapAfter, AreRememberedAfter, Remembers}
@@ -172,7 +172,7 @@ module _ (lay : Layout) (tries : ℕ) (calls : List Call) (judge : Judged) (clie
     clients = each;
   }
 
-  pub after_reply : (reply : Finished) (client changed : ClientState) (more : Judged) (next : Option ℕ) (fitting : Bool) → more ≡ judge → due ≡ None → IsReply lay tries calls lines reply → slice_get clients reply.client.0 ≡ Some client → ((left : List Command) → StandsNext calls client.pass.0 left client.at → StandsNext calls client.pass.0 (drop 1 left) next) → changed ≡ record client { at = next; answered = client.answered + 1; begun = None; steps = 0; won = None } → IsSoFar lay tries calls more (set clients reply.client.0 changed) turn made newest due fitting false false (ReplyLine reply ∷ lines)
+  pub after_reply : (reply : Finished) (client changed : ClientState) (more : Judged) (next : Option ℕ) (fitting : Bool) → more ≡ judge → due ≡ None → IsReply lay tries calls lines reply → slice_get clients reply.client.0 ≡ Some client → ((left : List Command) → IsNextCallAt calls client.pass.0 left client.at → IsNextCallAt calls client.pass.0 (drop 1 left) next) → changed ≡ record client { at = next; answered = client.answered + 1; begun = None; steps = 0; won = None } → IsSoFar lay tries calls more (set clients reply.client.0 changed) turn made newest due fitting false false (ReplyLine reply ∷ lines)
   unfolding AreLines
   after_reply reply client changed more next fitting same owed is there behind change = record {
     layout = ap (λ (k : Judged). k.layout) same ∙ x.layout;

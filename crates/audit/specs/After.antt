@@ -11,7 +11,7 @@ use Rattle.record.specs.declared.record.Entry.{Entry}
 use Rattle.record.specs.declared.record.TurnRow.TheVariants.{Idle}
 use Rattle.record.specs.Entries.{IsLog}
 use Rattle.record.specs.Steps.{IsStep}
-use Rattle.audit.specs.Calls.{StandsNext}
+use Rattle.record.specs.Commands.{IsNextCallAt}
 use Rattle.audit.specs.Edits.{MayMakeEdit}
 use Rattle.audit.specs.Remembered.{AreRemembered}
 use Rattle.audit.specs.Trees.{IsMapSoFar}
@@ -47,7 +47,7 @@ pass_number (Some pass) = Some pass.0
 -- what is remembered of client c is what the lines say
 pub record IsClientAfter (lay : Layout) (calls : List Call) (lines : List Line) (c : ℕ) (client : ClientState) : Type 0 where
   pub pass : client.pass.0 ≡ c
-  pub place : StandsNext calls c (drop client.answered (commands calls c)) client.at
+  pub place : IsNextCallAt calls c (drop client.answered (commands calls c)) client.at
   pub answered : client.answered ≡ answered lines c
   pub begun : client.begun ≡ begin lines c
   pub steps : client.steps ≡ steps lines c

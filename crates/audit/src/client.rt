@@ -3,11 +3,12 @@ ghost use Rattle.std.specs.Prelude.{◌≡◌, ℕ, List, length, set, slice_get
 ghost use Rattle.record.specs.Common.{Command as CommandOf, commands};
 ghost use Rattle.record.specs.declared.record.Entry.{Entry as EntryOf};
 ghost use Rattle.audit.specs.declared.client.ClientState.{ClientState as ClientOf};
-ghost use Rattle.audit.specs.Calls.{StandsNext, command_at};
+ghost use Rattle.record.specs.Commands.{IsNextCallAt};
+ghost use Rattle.audit.specs.Calls.{command_at};
 
-use crate::place::{next_behind, next_call};
+use crate::place::next_behind;
 use arena::PassNo;
-use record::Entry;
+use record::{Entry, next_call};
 use script::{Call, Command};
 
 /// What the lines so far say of a client.
@@ -29,7 +30,7 @@ pub(crate) struct ClientState {
 impl ClientState {
     /// A client that has made no turn.
     pub(crate) fn new(pass: PassNo, calls: &[Call]) -> ClientState
-        ensures at { StandsNext calls.now pass.0 (commands (drop 0 calls.now) pass.0) result.at }
+        ensures at { IsNextCallAt calls.now pass.0 (commands (drop 0 calls.now) pass.0) result.at }
         ensures new { result ≡ record { pass = pass; at = result.at; answered = 0; begun = None; steps = 0; won = None } }
     {
         ClientState {
@@ -78,8 +79,8 @@ impl ClientState {
     /// The same, with its call answered.
     pub(crate) fn ended(self, calls: &[Call]) -> ClientState
         requires { self.answered + 1 < 2 ^ 64 }
-        ensures place { (left : List CommandOf) → StandsNext calls.now self.pass.0 left self.at →
-            StandsNext calls.now self.pass.0 (drop 1 left) result.at }
+        ensures place { (left : List CommandOf) → IsNextCallAt calls.now self.pass.0 left self.at →
+            IsNextCallAt calls.now self.pass.0 (drop 1 left) result.at }
         ensures same { result ≡ record self { at = result.at; answered = self.answered + 1; begun = None; steps = 0; won = None } }
     {
         ClientState {

@@ -1,27 +1,16 @@
 //! Where a client's calls are in a script.
 ghost use Rattle.std.specs.Prelude.{List, drop};
-ghost use Rattle.record.specs.Common.{Command, commands};
-ghost use Rattle.audit.specs.Calls.{StandsNext};
+ghost use Rattle.record.specs.Common.{Command};
+ghost use Rattle.record.specs.Commands.{IsNextCallAt};
 
 use arena::PassNo;
+use record::next_call;
 use script::Call;
-
-/// Where the next call of a client is, from this place on.
-pub(crate) fn next_call(calls: &[Call], from: usize, pass: PassNo) -> Option<usize>
-    ensures { StandsNext calls.now pass.0 (commands (drop from calls.now) pass.0) result }
-{
-    for at in from..calls.len() {
-        if calls[at].client == pass {
-            return Some(at);
-        }
-    }
-    None
-}
 
 /// Where the call of a client is that comes after this one, which is its next.
 pub(crate) fn next_behind(calls: &[Call], at: Option<usize>, pass: PassNo) -> Option<usize>
-    ensures { (left : List Command) → StandsNext calls.now pass.0 left at →
-        StandsNext calls.now pass.0 (drop 1 left) result }
+    ensures { (left : List Command) → IsNextCallAt calls.now pass.0 left at →
+        IsNextCallAt calls.now pass.0 (drop 1 left) result }
 {
     let Some(at) = at else {
         return None;

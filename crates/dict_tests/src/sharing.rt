@@ -11,8 +11,10 @@ mod memory;
 mod refusals;
 mod renewals;
 mod rows;
+mod schedules;
 mod stopped;
 mod threads;
+mod worker;
 
 use arena::Limits;
 use dict::{Dict, FixedBalance, WordKey, WordValue};

@@ -42,7 +42,7 @@ use Rattle.player.specs.ClientView.{ClientView, no_hand, held, IsSound, Rests, R
 use Rattle.player.specs.declared.client.NextAction.{NextAction}
 use Rattle.player.specs.declared.client.NextAction.TheVariants.{Finished, Answers, Asks}
 use Rattle.std.proofs.lemmas.Option.{slice_get_read, slice_get_within, get_or_from_slice_get}
-use Rattle.player.proofs.Commands.{next_at}
+use Rattle.record.proofs.Lemmas.{next_at}
 use Rattle.std.specs.Global.{Global}
 
 none_late : (won : Option ℕ) (turn begin : ℕ) → won ≡ None → won ≡ Some turn → begin ≤ turn

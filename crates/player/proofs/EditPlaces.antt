@@ -2,7 +2,7 @@
 -- map had just before. One that is refused took place nowhere.
 use Rattle.std.proofs.Common.{◌≡◌, ℕ, suc, ◌⊎◌, inl, inr, ⊎_elim, Bool, true, false, cond, ◌&&◌, ◌||◌, eqb, eqb-true, eq-eqb, ne_eqb, is_some, List, [], ◌∷◌, ◌++◌, Option, Some, None, refl, sym, ◌∙◌, ap, subst}
 use Rattle.arena.specs.Opening.{IsMap}
-use Rattle.histories.specs.Common.{Layout, Row, History, Start, Opened, ◌⊳◌, value, Extends, IsOwnScx, Lawful, IsWin, IsRun}
+use Rattle.histories.specs.Common.{Layout, Row, History, Start, ◌⊳◌, value, Extends, IsOwnScx, Lawful, IsWin, IsRun}
 use Rattle.histories.proofs.Lemmas.{UpdateWins, lawful_row, one_scx_owner}
 use Rattle.record.specs.Common.{MapCall, MapReply, Spells, Call, Command, HasItsEntry, enters, IsRight, AreLines, linked, map_of, written_log}
 use Rattle.record.specs.Common.{entries_of_call, reply_told, next_command, AreSpelled, history, turns, answered, begin, start, won, entry_owed, client_of}
@@ -21,17 +21,9 @@ use Rattle.player.specs.ClientView.{client_view, AnswersRight, IsToldChange}
 use Rattle.record.proofs.Lemmas.{entries_none, AreOf, map_calls}
 use Rattle.linearization.specs.Entries.{AreEntries}
 use Rattle.linearization.proofs.Lemmas.{spelled}
+use Rattle.player.proofs.NewestRow.{older, newest_row}
 use Rattle.player.proofs.MapCalls.{map_run, run_before}
 use Rattle.player.proofs.Winners.{win_enters}
-
--- a history without its newest row, and that row
-abbrev older : History → History
-older (Opened o) = Opened o
-older (r ⊳ h) = h
-
-abbrev newest_row : Row → History → Row
-newest_row r (Opened o) = r
-newest_row r (q ⊳ h) = q
 
 either : {X : Type 0} (b : Bool) (x y : X) → (cond b x y ≡ x) ⊎ (cond b x y ≡ y)
 either true x y = inl refl

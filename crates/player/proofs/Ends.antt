@@ -323,26 +323,6 @@ rests_as v c linked drops x = record {
 holds_as : (v : ClientView) (c : Client) (linked : ℕ → Option History) (hand : Hand) → HoldsShare v c hand → HoldsShare (record v { linked = linked }) c hand
 holds_as v c linked hand x = record { some = x.some; share = x.share; upper = x.upper; over = x.over }
 
-ends_vlx : (v : ClientView) (c : Client) (run : Run) (then : Option SetField) (a : VlxAnswer) → Answered v c run then (ended.Vlx a) → EndsCall v c c (answer_of (ended.Vlx a))
-ends_vlx v c (Vlx m) then a x =
-    let y = subst (λ (k : History). VlxAnswers m.snaps (machine_call v c x.works.is_pass k) v.past a) x.works.begun x.answers in
-    let alone = subst (λ (k : History). AreLeftAlone v.layout c.pass.0 k m.snaps) x.works.begun x.works.alone in
-    let o = vlx_outcome v c x.works.command m then a x.works.run_of x.works.moments alone x.works.won (taken_nothing v c.pass.0 (held c) 0 0 x.works.holds.share x.works.took) x.works.is_pass y in
-    record {
-      same = record { pass = refl; number = refl; next = refl };
-      begin = refl;
-      command = x.works.command;
-      is = x.works.is;
-      rests = record { stands = rests_as v c (linked_by v x.works.command (answer_of (ended.Vlx a))) o.drops x.works.stands; holds = holds_as v c (linked_by v x.works.command (answer_of (ended.Vlx a))) (no_hand (held c)) x.works.holds; none = x.none };
-      answers = o.answers;
-      right = o.right;
-      entry = o.entry;
-      tells = o.tells;
-      took = o.took;
-      late = x.works.late;
-    }
-ends_vlx v c run then a x = absurd x.answers
-
 -- a call ends with this answer, which leaves what the client has
 ends_as : (v : ClientView) (c : Client) (command : Command) (answer : Answer) → command_of v c ≡ Some command → IsClientState v c (no_hand (held c)) → HoldsShare v c (no_hand (held c)) → c.running ≡ None → IsOutcome v c.pass.0 [] command answer → ((turn : ℕ) → v.won ≡ Some turn → c.begin ≤ turn) → EndsCall v c c answer
 ends_as v c command answer is stands holds none o late = record {
@@ -358,6 +338,15 @@ ends_as v c command answer is stands holds none o late = record {
   took = o.took;
   late = late;
 }
+
+ends_vlx : (v : ClientView) (c : Client) (run : Run) (then : Option SetField) (a : VlxAnswer) → Answered v c run then (ended.Vlx a) → EndsCall v c c (answer_of (ended.Vlx a))
+ends_vlx v c (Vlx m) then a x =
+    let y = subst (λ (k : History). VlxAnswers m.snaps (machine_call v c x.works.is_pass k) v.past a) x.works.begun x.answers in
+    let alone = subst (λ (k : History). AreLeftAlone v.layout c.pass.0 k m.snaps) x.works.begun x.works.alone in
+    ends_as v c x.works.command (answer_of (ended.Vlx a)) x.works.is x.works.stands x.works.holds x.none
+    (vlx_outcome v c x.works.command m then a x.works.run_of x.works.moments alone x.works.won (taken_nothing v c.pass.0 (held c) 0 0 x.works.holds.share x.works.took) x.works.is_pass y)
+    x.works.late
+ends_vlx v c run then a x = absurd x.answers
 
 -- The end of a call of the map
 

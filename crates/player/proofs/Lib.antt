@@ -1,3 +1,4 @@
+mod NewestRow
 mod Shapes
 mod RunLaws
 mod Readings

@@ -14,7 +14,7 @@ use Rattle.record.specs.Common.{IsOfMode, Command, asks_map, AreFilledInOrder, C
 use Rattle.record.specs.Common.{Predecessor as PredecessorOf, Range as RangeOf, history, turns, entries, answered, begin, start, steps, won, last_client, entry_of, entry_owed, entry_at}
 use Rattle.record.specs.Common.{commands, next_command, linked, HasItsEntry, MayAnswerAtOnce, HasTakenFew, enters, IsRight, IsFitting, OwesNothing, AreLines, ManyPairs}
 use Rattle.arena.specs.Opening.{IsMap}
-use Rattle.player.proofs.Commands.{none_left, next_at, place_more, number_small}
+use Rattle.player.proofs.Commands.{place_more, number_small}
 use Rattle.player.specs.Allowed.{PlayedAllows}
 use Rattle.ordered_map.specs.FillOrder.{IsFillInOrder}
 use Rattle.record.specs.declared.record.Line.{Line}
@@ -34,7 +34,7 @@ use Rattle.record.specs.LawfulRun.{IsNext}
 use Rattle.player.specs.ClientView.{ClientView, client_view, no_hand, held, AnswersRight, linked_by, Rests, IsClient, IsAtNextCall, Refuses}
 use Rattle.player.specs.BetweenTurns.{IsLawfulSoFar, AreOthers, IsTurnOf, AreBetweenTurns, IsMade, IsEnd, AreWins}
 use Rattle.player.proofs.Views.{TellsWon, client_by_others, stands_from, holds_from}
-use Rattle.record.proofs.Lemmas.{some_turn, start_kept, begin_within, won_within, get_other, get_own, get_there, of_commands}
+use Rattle.record.proofs.Lemmas.{some_turn, start_kept, begin_within, won_within, get_other, get_own, get_there, of_commands, none_left, next_at}
 use Rattle.player.proofs.MapEnds.{entered_none}
 use Rattle.linearization.specs.Ordered.{FallFrom}
 use Rattle.linearization.proofs.Lemmas.{falls, nothing_taken}

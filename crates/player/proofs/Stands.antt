@@ -11,12 +11,12 @@ use Rattle.record.specs.declared.record.Answer.{Answer}
 use Rattle.player.specs.declared.client.Client.{Client}
 use Rattle.player.specs.declared.client.NextAction.TheVariants.{Finished, Answers, Asks}
 use Rattle.player.specs.declared.interleaving.Interleaving.{Interleaving}
-use Rattle.player.specs.Place.{IsNextCallAt}
+use Rattle.record.specs.Commands.{IsNextCallAt}
 use Rattle.player.specs.ClientView.{ClientView, client_view, Rests, Refuses, WaitsForStep, IsClient, IsNextAction, command_of}
 use Rattle.player.specs.BetweenTurns.{IsTurnOf, AreBetweenTurns, IsBetweenTurns, IsStepAsked, IsEnd, ArePlaces}
 use Rattle.linearization.specs.declared.places.Change.{Change}
 use Rattle.linearization.specs.Places.{changes}
-use Rattle.player.proofs.Commands.{none_left, next_at}
+use Rattle.record.proofs.Lemmas.{none_left, next_at}
 use Rattle.player.proofs.Middles.{turn_begins, turn_changed, finished_turn, refused_turn}
 use Rattle.player.proofs.Steps.{few_calls}
 

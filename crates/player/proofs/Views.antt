@@ -1,7 +1,7 @@
 -- What each row leaves of what the clients know.
 use Rattle.std.proofs.Common.{◌≡◌, ◌≢◌, ℕ, suc, ◌<◌, ◌≤◌, ◌⊎◌, inl, inr, ⊎_elim, Option, Some, None, List, refl, sym, ◌∙◌, subst, arith}
 use Rattle.arena.specs.Opening.{IsMap}
-use Rattle.histories.specs.Common.{Layout, Row, Step as Ask, Remaining, word_after, History, Opened, ◌⊳◌, value, Extends, IsMember}
+use Rattle.histories.specs.Common.{Layout, Row, Step as Ask, Remaining, word_after, History, ◌⊳◌, value, Extends, IsMember}
 use Rattle.histories.specs.Common.{IsInProgress, IsOwnNode, IsOwnScx, IsTakenNode, IsTakenScx, Lawful, HasWon, IsWin, Call, IsTold, row_of, LoadInfo}
 use Rattle.arena.proofs.Lemmas.{last_more, ends_self, ends_trans, taken_more}
 use Rattle.histories.proofs.Lemmas.{Logs, UpdateWins, facts_before, logs, same as log_same, update_split, update_win, update_won, lawful_row, wins as log_wins, won_more}
@@ -18,6 +18,7 @@ use Rattle.player.specs.declared.kept.KeptSnapshot.{KeptSnapshot}
 use Rattle.player.specs.KeptSnaps.{IsUnspent, kept_of, snap_of}
 use Rattle.record.specs.Answers.{HasRoom}
 use Rattle.dict.specs.Calls.{trie_in}
+use Rattle.player.proofs.NewestRow.{older, newest_row}
 use Rattle.player.proofs.Shapes.{of_map}
 use Rattle.player.specs.RunKnown.{RunWaits, RunIsReady, run_mode}
 use Rattle.player.proofs.RunLaws.{run_keeps, run_lawful, run_made}
@@ -26,15 +27,6 @@ use Rattle.player.proofs.Over.{IsOfCells, takes_by_own, nodes_by_own}
 
 some_number : (a b : ℕ) → Some a ≡ Some b → a ≡ b
 some_number a b e = cc
-
--- a history without its newest row, and that row
-abbrev older : History → History
-older (Opened o) = Opened o
-older (r ⊳ h) = h
-
-abbrev newest_row : Row → History → Row
-newest_row r (Opened o) = r
-newest_row r (q ⊳ h) = q
 
 -- Its own machine's step leaves what the share still has untouched
 

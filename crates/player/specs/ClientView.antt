@@ -30,7 +30,7 @@ use Rattle.player.specs.Allowed.{PlayedAllows}
 use Rattle.player.specs.RunKnown.{RunIsReady, RunWaits, RunAnswers, edit_in_hand, run_mode, share_behind}
 use Rattle.player.specs.RunSteps.{then_left, left_of}
 use Rattle.player.specs.KeptSnaps.{AreKept, IsUnspent, kept_of}
-use Rattle.player.specs.Place.{IsNextCallAt}
+use Rattle.record.specs.Commands.{IsNextCallAt}
 use Rattle.record.specs.CommandRules.{linked_then}
 use Rattle.record.specs.Answers.{HasRoom}
 

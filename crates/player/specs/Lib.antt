@@ -4,7 +4,6 @@ pub mod RunSteps
 pub mod RunKnown
 pub mod Lines
 pub mod Player
-pub mod Place
 pub mod Plays
 pub mod Followed
 pub mod ClientView

@@ -11,7 +11,6 @@ ghost use Rattle.player.specs.ClientView.{ClientView, IsSound, Hears};
 ghost use Rattle.player.specs.Hearing.{HasHeard};
 
 use crate::kept::Kept;
-use crate::place::next_call;
 use crate::run::{Ended, Run};
 use arena::{Fresh, Full, Layout, Mode, NodeNo, PassNo, Resource, ScxNo, Share, Side, Step, Turn};
 use arrayvec::ArrayVec;
@@ -19,7 +18,7 @@ use dict::DictRun;
 use linearization::Places;
 use ordered_map::{Reply, Request};
 use prims::{Llx, LlxRun, PutRun, ScxRun, Snap, Snaps, Update, VlxRun};
-use record::{Answer, Finished};
+use record::{Answer, Finished, next_call};
 use script::{Call, Cell, Command};
 use std::alloc::Global;
 

@@ -6,7 +6,6 @@ mod interleaving;
 mod kept;
 mod lines;
 mod orders;
-mod place;
 mod player;
 mod player_core;
 mod plays;

@@ -1,10 +1,12 @@
 -- The commands of a client among the calls, and lists with one place changed.
-use Rattle.std.proofs.Common.{◌≡◌, ◌≢◌, ℕ, zero, suc, ◌+◌, ◌<◌, Bool, true, false, cond, eqb, List, [], ◌∷◌, ◌++◌, length, set, take, drop, slice_get, get_or, Some, None, All, refl, sym, ◌∙◌, ap, subst, arith}
+use Rattle.std.proofs.Common.{◌≡◌, ◌≢◌, ℕ, zero, suc, ◌+◌, ◌<◌, Bool, true, false, cond, eqb, eq-eqb, List, [], ◌∷◌, ◌++◌, length, set, take, drop, drop-cons, slice_get, get_or, Some, None, All, refl, sym, ◌∙◌, ap, subst, arith}
 use Rattle.std.proofs.lemmas.List.{take_more}
+use Rattle.std.proofs.lemmas.Option.{slice_get_read}
 use Rattle.std.proofs.lemmas.List.Elements.{All-tail}
 use Rattle.arena.specs.Opening.{IsMap}
 use Rattle.histories.specs.Common.{Mode}
 use Rattle.record.specs.Common.{MapCall, map_request, IsOfMode, Call, Command, Llx as LlxOf, Scx as ScxOf, Vlx as VlxOf, Set as SetOf, Map, asks_map, commands, map_call}
+use Rattle.record.specs.Commands.{IsNextCallAt}
 use Rattle.record.proofs.Legality.{AreMapCalls}
 
 -- Lists
@@ -91,3 +93,22 @@ map_calls mode calls e all c j command is = go command (of_commands (IsOfMode mo
     go (ScxOf update) e = cc
     go (VlxOf cells) e = cc
     go (SetOf field value) e = cc
+
+-- Where they are
+
+-- the next of a client's commands is that of the call where it is
+pub next_at : (calls : List Call) (c number at : ℕ) → IsNextCallAt calls c (drop number (commands calls c)) (Some at) → (call : Call) × (slice_get calls at ≡ Some call) × (call.client.0 ≡ c) × (slice_get (commands calls c) number ≡ Some call.command)
+next_at calls c number at x = (x.0, x.1, x.2, (first_left (commands calls c) number x.0.command _ x.3).0)
+
+-- where none of a client's commands is left, it has none of this number
+pub none_left : (calls : List Call) (c number : ℕ) → drop number (commands calls c) ≡ [] → slice_get (commands calls c) number ≡ None
+none_left calls c number e = none_there (commands calls c) number e
+
+-- the call at this place is the next, if it is the client's
+pub call_at : (calls : List Call) (c at : ℕ) (call : Call) (left : List Command) → at < length calls → call ≡ get_or calls at call → call.client.0 ≡ c → left ≡ commands (drop at calls) c → IsNextCallAt calls c left (Some at)
+call_at calls c at call left below is same e = (
+  call,
+  slice_get_read calls (length calls) at call refl below is,
+  same,
+  e ∙ ap (λ (xs : List Call). commands xs c) (drop-cons calls at call below) ∙ ap (λ (x : Call). commands (x ∷ drop (suc at) calls) c) (sym is) ∙ ap (λ (b : Bool). cond b (call.command ∷ commands (drop (suc at) calls) c) (commands (drop (suc at) calls) c)) (eq-eqb call.client.0 c same),
+)

@@ -21,6 +21,10 @@ call_rows_after earlier (x ∷ xs) ys =
 pub call_text_append : (earlier xs ys : List Call) → rows_text 7 (call_rows earlier (xs ++ ys)) ≡ rows_text 7 (call_rows earlier xs) ++ rows_text 7 (call_rows (reverse xs ++ earlier) ys)
 call_text_append earlier xs ys = ap (rows_text 7) (call_rows_after earlier xs ys) ∙ rows_after 7 (call_rows earlier xs) (call_rows (reverse xs ++ earlier) ys)
 
+-- the rows of some calls, and of those after them
+pub call_text_after : (earlier all some more : List Call) → all ≡ some ++ more → rows_text 7 (call_rows earlier all) ≡ rows_text 7 (call_rows earlier some) ++ rows_text 7 (call_rows (reverse some ++ earlier) more)
+call_text_after earlier all some more e = ap (λ calls. rows_text 7 (call_rows earlier calls)) e ∙ call_text_append earlier some more
+
 -- one more call after others
 pub call_text_more : (earlier done : List Call) (call : Call) → rows_text 7 (call_rows earlier (done ++ call ∷ [])) ≡ rows_text 7 (call_rows earlier done) ++ line_of 7 (reported_call_row (reverse done ++ earlier) call)
 unfolding call_rows rows_text

@@ -1,5 +1,5 @@
 -- The rows of an outcome, as they are written.
-use Rattle.std.proofs.Common.{◌≡◌, ℕ, suc, ◌+◌, ◌<◌, ◌≤◌, arith, ◌-◌, ◌^◌, min, Bool, true, false, List, [], ◌∷◌, ◌++◌, ◌∙◌, ⊎_elim, Vec, ap, append-nil, codes, drop, get_or, length, refl, sym}
+use Rattle.std.proofs.Common.{◌≡◌, ℕ, suc, ◌+◌, ◌<◌, ◌≤◌, arith, ◌-◌, ◌^◌, min, Bool, true, false, List, [], ◌∷◌, ◌++◌, ◌∙◌, ⊎_elim, Vec, ap, append-nil, codes, drop, get_or, length, length-append, refl, sym}
 use Rattle.std.specs.Global.{Global}
 use Rattle.std.proofs.lemmas.Bool.Decides.{leb_tells}
 use Rattle.std.proofs.lemmas.List.{drop_all}
@@ -76,6 +76,10 @@ none_left k all past = rw (drop_all k all past) refl
 -- a count that does not reach it
 pub counts_all : (count more next : ℕ) → count + more < 2 ^ 64 → next ≡ min (count + more) (2 ^ 64 - 1) → next ≡ count + more
 counts_all count more next fits e = e ∙ min-eq_left (omega (arith, fits))
+
+-- the count after some of what is left, and what is left then
+pub counts_chunk : {A : Type 0} (count whole : ℕ) (all some left : List A) → all ≡ some ++ left → count + length all ≡ whole → (count + length some) + length left ≡ whole
+counts_chunk count whole all some left split e = let n = ap (λ things. length things) split ∙ length-append some left in omega (arith, e, n)
 
 -- one more count after another
 pub counts_on : (gone more count next : ℕ) → count ≡ min gone (2 ^ 64 - 1) → next ≡ min (count + more) (2 ^ 64 - 1) → next ≡ min (gone + more) (2 ^ 64 - 1)

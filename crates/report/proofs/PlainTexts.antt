@@ -2,7 +2,10 @@
 use Rattle.std.proofs.Common.{◌≡◌, ◌∙◌, ℕ, List, [], ◌∷◌, ◌++◌, append_assoc, append-nil, codes, decimal, refl, sym}
 use Rattle.arena.specs.declared.step.Kind.{Kind}
 use Rattle.arena.specs.declared.step.Kind.TheVariants.{Fill, LoadSettled, LoadInfo, LoadState, LoadMarked, LoadAllFrozen, LoadChild, Freeze, SetFrozen, Mark, Update, Commit, Abort}
+use Rattle.arena.specs.declared.limits.Mode.{Mode}
+use Rattle.arena.specs.declared.limits.Mode.TheVariants.{Tree, Trie, Records}
 use Rattle.script.specs.Kinds.{kind_text}
+use Rattle.report.specs.Report.{mode_text}
 use Rattle.texts.specs.Sheets.{IsPlain}
 use Rattle.texts.proofs.Lemmas.{plain_append}
 
@@ -21,6 +24,12 @@ kind_plain Mark = refl
 kind_plain Update = refl
 kind_plain Commit = refl
 kind_plain Abort = refl
+
+-- the names of the modes
+pub mode_plain : (mode : Mode) → IsPlain (mode_text mode)
+mode_plain Tree = refl
+mode_plain Trie = refl
+mode_plain Records = refl
 
 -- a pair
 pub pair_plain : (p : ℕ × ℕ) → IsPlain (decimal p.0) → IsPlain (decimal p.1) → IsPlain (codes " " ++ (decimal p.0 ++ (codes " " ++ decimal p.1)))

@@ -1,5 +1,5 @@
 -- How a streamed report grows, turn by turn.
-use Rattle.std.proofs.Common.{◌≡◌, ◌+◌, ◌-◌, ◌^◌, ◌<◌, ◌≤◌, ◌⊎◌, ◌∙◌, inl, inr, ℕ, Bool, true, false, IsTrue, List, [], ◌∷◌, ◌++◌, Option, Some, None, ap, append_assoc, append-nil, arith, map, refl, reverse, subst, sym, min}
+use Rattle.std.proofs.Common.{◌≡◌, ◌+◌, ◌-◌, ◌^◌, ◌<◌, ◌≤◌, ◌⊎◌, ◌∙◌, inl, inr, ℕ, Bool, true, false, IsTrue, OnOk, Result, List, [], ◌∷◌, ◌++◌, Option, Some, None, ap, append_assoc, append-nil, arith, map, refl, reverse, subst, sym, min}
 use Rattle.std.proofs.lemmas.List.{map-append, reverse-append, reverse-reverse}
 use Rattle.std.specs.Io.KnownBytes.{Appends, Keeps}
 use Rattle.texts.specs.Pages.{BeginsWith, rows_text}
@@ -9,14 +9,17 @@ use Rattle.record.specs.declared.record.Finished.{Finished}
 use Rattle.record.specs.declared.record.Line.{Line}
 use Rattle.record.specs.declared.record.Line.TheVariants.{Step, Log, Reply}
 use Rattle.record.specs.declared.record.TurnRow.{TurnRow}
-use Rattle.player.specs.Core.{IsNextTurn, with_lines}
+use Rattle.player.specs.Core.{IsNextTurn, StandsAt, with_lines}
 use Rattle.player.specs.Lines.{turn_lines}
 use Rattle.player.specs.Player.{PlayerView, ScriptView, script_view}
+use Rattle.player.specs.declared.interleaving.Interleaving.{Interleaving}
+use Rattle.player.proofs.Lemmas.{stands_played}
 use Rattle.report.specs.Report.{call_rows, counts_row, entries_in, line_row, replies_in, report_end_row, report_text, steps_in, title_row}
-use Rattle.report.specs.Streams.{AreTotals, HasWritten, IsCutAt, text_so_far}
+use Rattle.report.specs.Streams.{AreTotals, HasWritten, HasWrittenTurn, IsCutAt, text_so_far}
 use Rattle.report.specs.declared.stream.Stream.{Stream}
+use Rattle.report.specs.declared.stream.StreamFault.{StreamFault}
 use Rattle.report.specs.declared.totals.Totals.{Totals}
-use Rattle.report.proofs.Texts.{IsSent, all_sent, none_sent, part_sent, piece_sent, rows_after, so_far_sent}
+use Rattle.report.proofs.Texts.{IsSent, all_sent, none_sent, on_err, part_sent, piece_sent, rows_after, so_far_sent}
 
 -- Lines
 
@@ -154,6 +157,14 @@ module _ (first second whole : List ℕ) (is : first ++ second ≡ whole) where
 -- the row of counts that are those of the lines
 pub end_row : (totals : Totals) (lines : List Line) → AreTotals totals lines → rows_text 7 (counts_row totals.steps totals.replies totals.entries ∷ []) ≡ rows_text 7 (report_end_row lines ∷ [])
 end_row totals lines x = rw (x.steps, x.replies, x.entries) refl
+
+-- a turn was made, and a fault in its lines has ended the stream
+pub cut_off : {T unwritten : Type 0} (stream : Stream) (core : Interleaving) (old new : Option (List ℕ)) (p : PlayerView) (i : ℕ) (more : List Line) (r : Result T StreamFault) → stream.ended ≡ true → OnOk r (HasWritten stream old new (with_lines p stream.lines.items)) → IsNextTurn p i more → StandsAt core (with_lines p more) → BeginsWith old new (text_so_far (with_lines p more)) → HasWrittenTurn stream old new p i unwritten r
+cut_off stream core old new p i more r ended written turn stands text = record {
+  written = written;
+  refused = on_err r (λ on. absurd cc);
+  cut = on_err r (λ ended. record { more = more; turn = turn; played = stands_played core _ stands; text = text });
+}
 
 -- a turn that was not written was stopped before its lines, if the stream continues, or in these
 pub stopped_in : (next : Stream) (old new : Option (List ℕ)) (p : PlayerView) (i : ℕ) → (next.ended ≡ false → HasWritten next old new p) → (IsTrue next.ended → IsCutAt old new p i) → BeginsWith old new (text_so_far p) ⊎ ((i : ℕ) × IsCutAt old new p i)

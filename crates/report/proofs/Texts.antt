@@ -69,6 +69,14 @@ part_sent old mid new piece left whole x (n, bound, sent) =
     subst (λ text. BeginsWith old new text) x.whole_is
     (length x.so_far + n, rw (length-append x.so_far (piece ++ left), length-append piece left) (omega (arith, bound)), rw (take-append-add x.so_far (piece ++ left) n, take-append-le n piece left bound) (Appends-trans old mid new x.so_far (take n piece) x.sent sent))
 
+-- the first piece of what is left goes out
+pub next_sent : (old mid new : Option (List ℕ)) (left piece rest whole : List ℕ) → left ≡ piece ++ rest → IsSent old mid left whole → Appends mid new piece → IsSent old new rest whole
+next_sent old mid new left piece rest whole is x more = piece_sent old mid new piece rest whole (subst (λ text. IsSent old mid text whole) is x) more
+
+-- a beginning of that piece goes out
+pub next_part_sent : (old mid new : Option (List ℕ)) (left piece rest whole : List ℕ) → left ≡ piece ++ rest → IsSent old mid left whole → BeginsWith mid new piece → BeginsWith old new whole
+next_part_sent old mid new left piece rest whole is x part = part_sent old mid new piece rest whole (subst (λ text. IsSent old mid text whole) is x) part
+
 -- the rows of some things, and of those after them
 pub rows_split : {A : Type 0} (width : ℕ) (row_of : A → List (List ℕ)) (all some more : List A) → all ≡ some ++ more → rows_text width (map row_of all) ≡ rows_text width (map row_of some) ++ rows_text width (map row_of more)
 rows_split width row_of all some more e = ap (λ things. rows_text width (map row_of things)) e ∙ ap (λ rows. rows_text width rows) (map-append row_of some more) ∙ rows_after width (map row_of some) (map row_of more)

@@ -1,7 +1,7 @@
 //! The first rows of a report and its last one.
-ghost use Rattle.std.specs.Prelude.{◌≡◌, ◌≤◌, [], ◌∷◌, ◌++◌, OnOk};
+ghost use Rattle.std.specs.Prelude.{◌≡◌, ◌≤◌, [], ◌∷◌, ◌++◌, OnOk, length};
 ghost use Rattle.script.specs.Rows.{limits_row};
-ghost use Rattle.report.specs.Report.{counts_row, title_row};
+ghost use Rattle.report.specs.Report.{counts_row, mode_text, title_row};
 ghost use Rattle.texts.specs.Pages.{line_of, rows_text};
 ghost use Rattle.texts.specs.Sheets.{sheet_room, sheet_text};
 
@@ -34,10 +34,19 @@ fn put_title(sheet: &mut Sheet, mode: Mode)
 {
     sheet.put("report,");
     sheet.put(Version::Two.name());
+    sheet.put(",");
+    sheet.put(mode_name(mode));
+    sheet.put(",,,,\n");
+}
+
+fn mode_name(mode: Mode) -> &'static str
+    ensures name { result.now ≡ mode_text mode }
+    ensures short { length result.now ≤ 7 }
+{
     match mode {
-        Mode::Tree => sheet.put(",tree,,,,\n"),
-        Mode::Trie => sheet.put(",trie,,,,\n"),
-        Mode::Records => sheet.put(",records,,,,\n"),
+        Mode::Tree => "tree",
+        Mode::Trie => "trie",
+        Mode::Records => "records",
     }
 }
 

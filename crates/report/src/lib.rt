@@ -2,6 +2,7 @@
 #![tactic(auto)]
 
 mod answer;
+mod as_row;
 mod call;
 mod commands;
 mod count;

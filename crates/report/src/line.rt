@@ -1,12 +1,13 @@
 //! Steps, log entries and replies as rows.
-ghost use Rattle.std.specs.Prelude.{◌≡◌, ◌≤◌, ◌++◌, OnOk, codes, map};
+ghost use Rattle.std.specs.Prelude.{◌≡◌, ◌≤◌, ◌++◌, OnOk, codes};
 ghost use Rattle.record.specs.declared.record.Line.TheVariants.{Step as StepLine, Log, Reply as ReplyLine};
 ghost use Rattle.record.specs.declared.record.TurnRow.TheVariants.{Step as Made, Idle};
 ghost use Rattle.report.specs.Report.{line_row, moment_text};
-ghost use Rattle.texts.specs.Pages.{line_of, rows_text};
+ghost use Rattle.texts.specs.Pages.{line_of};
 ghost use Rattle.texts.specs.Sheets.{IsPlain, sheet_room, sheet_text};
 
 use crate::answer::put_answer;
+use crate::as_row::AsRow;
 use crate::numbers::put_field;
 use crate::word::put_word;
 use arena::PassNo;
@@ -18,29 +19,23 @@ use texts::Sheet;
 /// How long a row is at most, except for the answer in the row of a reply.
 const LONGEST: usize = 160;
 
-/// Puts the rows of some lines of a run.
-pub fn put_lines(sheet: &mut Sheet, lines: &[Line]) -> Result<(), AllocError>
-    ensures { OnOk result (sheet_text sheet.new ≡ sheet_text sheet.old ++ rows_text 7 (map line_row lines.now)) }
-{
-    for line in lines {
-        put_line(sheet, line)?;
-    }
-    Ok(())
-}
+impl AsRow for Line {
+    ghost width = { 7 };
 
-/// Puts the row of a line: room is made once, and its fields are put in place. None of them has a
-/// byte for which csv puts quotes.
-pub fn put_line(sheet: &mut Sheet, line: &Line) -> Result<(), AllocError>
-    ensures { OnOk result (sheet_text sheet.new ≡ sheet_text sheet.old ++ line_of 7 (line_row line.now)) }
-{
-    sheet.make_room(LONGEST)?;
-    match line {
-        Line::Step(TurnRow::Step { number, row }) => put_step(sheet, *number, row),
-        Line::Step(TurnRow::Idle { number, client }) => put_idle(sheet, *number, *client),
-        Line::Log(entry) => put_entry(sheet, entry),
-        Line::Reply(reply) => put_finished(sheet, reply)?,
+    ghost fields = { line_row };
+
+    /// Room is made once, and the fields are put in place. None of them has a byte for which csv
+    /// puts quotes.
+    fn put_row(&self, sheet: &mut Sheet) -> Result<(), AllocError> {
+        sheet.make_room(LONGEST)?;
+        match self {
+            Line::Step(TurnRow::Step { number, row }) => put_step(sheet, *number, row),
+            Line::Step(TurnRow::Idle { number, client }) => put_idle(sheet, *number, *client),
+            Line::Log(entry) => put_entry(sheet, entry),
+            Line::Reply(reply) => put_finished(sheet, reply)?,
+        }
+        Ok(())
     }
-    Ok(())
 }
 
 #[inline]

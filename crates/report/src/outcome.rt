@@ -1,10 +1,11 @@
 //! The outcome of a run with threads.
-ghost use Rattle.std.specs.Prelude.{◌≡◌, [], ◌∷◌, ◌++◌, ◌+◌, ◌^◌, ◌<◌, IfOk, OnErr, OnOk, length, map};
+ghost use Rattle.std.specs.Prelude.{◌≡◌, [], ◌∷◌, ◌++◌, ◌+◌, ◌^◌, ◌<◌, IfOk, OnErr, OnOk, length};
 ghost use Rattle.std.specs.Io.KnownBytes.{Appends};
 ghost use Rattle.report.specs.Outcome.{client_rows, gate_row, outcome_end_row, outcome_text, outcome_title_row, pair_row, replies_counted, reply_row, reply_rows};
 ghost use Rattle.texts.specs.Pages.{BeginsWith, CountsWriteFault, line_of, rows_text};
 ghost use Rattle.texts.specs.Sheets.{sheet_text};
 
+use crate::as_row::{AsRow, ROWS, write_rows};
 use crate::numbers::put_field;
 use crate::reply::put_reply;
 use ordered_map::Reply;
@@ -14,9 +15,6 @@ use texts::{Metered, Sheet, WriteFault, send};
 
 /// How long a row is at most, except for the reply in it.
 const LONGEST: usize = 80;
-
-/// How many rows are made in memory before they go out.
-const ROWS: usize = 64;
 
 /// Writes the outcome of a run: a row that names the format, one that says whether the gate was
 /// met, the replies by client and call, the pairs by key, and a row that counts both. After a fault
@@ -36,7 +34,7 @@ pub fn write_outcome<W: Write>(
     put_opening(&mut sheet, missed)?;
     send(sheet.text(), to)?;
     let count = write_clients(&mut sheet, replies, to)?;
-    write_pairs(&mut sheet, pairs, to)?;
+    write_rows(&mut sheet, pairs, to)?;
     sheet.clear();
     put_closing(&mut sheet, count, pairs.len() as u64)?;
     send(sheet.text(), to)
@@ -130,44 +128,20 @@ fn put_reply_row(
     sheet.push("\n")
 }
 
-/// Writes the rows of the pairs.
-fn write_pairs<W: Write>(
-    sheet: &mut Sheet,
-    pairs: &[(u64, u128)],
-    to: &mut Metered<W>,
-) -> Result<(), WriteFault>
-    ensures all { OnOk result (Appends (W.contents to.old.inner) (W.contents to.new.inner) (rows_text 4 (map pair_row pairs.now))) }
-    ensures beginning { OnErr result (BeginsWith (W.contents to.old.inner) (W.contents to.new.inner) (rows_text 4 (map pair_row pairs.now))) }
-    ensures failures { CountsWriteFault result to.old.failures to.new.failures }
-{
-    for some in pairs.chunks(ROWS) {
-        sheet.clear();
-        put_pair_rows(sheet, some)?;
-        send(sheet.text(), to)?;
-    }
-    Ok(())
-}
+impl AsRow for (u64, u128) {
+    ghost width = { 4 };
 
-/// Puts the rows of some pairs.
-fn put_pair_rows(sheet: &mut Sheet, pairs: &[(u64, u128)]) -> Result<(), AllocError>
-    ensures { OnOk result (sheet_text sheet.new ≡ sheet_text sheet.old ++ rows_text 4 (map pair_row pairs.now)) }
-{
-    for pair in pairs {
-        put_pair_row(sheet, pair)?;
-    }
-    Ok(())
-}
+    ghost fields = { pair_row };
 
-fn put_pair_row(sheet: &mut Sheet, pair: &(u64, u128)) -> Result<(), AllocError>
-    ensures { OnOk result (sheet_text sheet.new ≡ sheet_text sheet.old ++ line_of 4 (pair_row pair.now)) }
-{
-    let (key, value) = *pair;
-    sheet.make_room(LONGEST)?;
-    sheet.put("pair,");
-    put_field(sheet, key);
-    sheet.wide_number(value);
-    sheet.put(",\n");
-    Ok(())
+    fn put_row(&self, sheet: &mut Sheet) -> Result<(), AllocError> {
+        let (key, value) = *self;
+        sheet.make_room(LONGEST)?;
+        sheet.put("pair,");
+        put_field(sheet, key);
+        sheet.wide_number(value);
+        sheet.put(",\n");
+        Ok(())
+    }
 }
 
 /// Puts the row that counts replies and pairs.

@@ -11,8 +11,8 @@ ghost use Rattle.report.specs.Report.{report_text};
 ghost use Rattle.report.specs.StreamFaults.{CountsStreamFault, stream_fault_of};
 ghost use Rattle.report.specs.declared.stream.StreamFault.TheVariants as fault;
 
+use crate::as_row::put_rows;
 use crate::head::{put_end, put_head};
-use crate::line::put_lines;
 use crate::totals::Totals;
 use crate::write::write_calls;
 use arena::{NoMemory, PassNo};
@@ -138,7 +138,7 @@ impl Stream {
         self.core.step_into(client, &mut self.lines)?;
         // The turn is made, and can't be asked again until its lines are out.
         self.ended = true;
-        put_lines(&mut self.sheet, self.lines.as_slice())?;
+        put_rows(&mut self.sheet, self.lines.as_slice())?;
         send(self.sheet.text(), to)?;
         flush(to)?;
         self.totals.count(self.lines.as_slice());

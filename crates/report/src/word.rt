@@ -148,6 +148,7 @@ fn node_part_of(name: &str) -> Option<NodeWord>
     }
 }
 
+#[tactic(auto, using(std::proofs::lemmas::Fmt::decimal_digit))]
 fn scx_part_of(name: &str) -> Option<ScxWord>
     ensures { MatchOption result ((part : ScxWordOf) → IsScxWord part →
         name.now ≢ scx_part part) (λ part. IsScxWord part × (name.now ≡ scx_part part)) }

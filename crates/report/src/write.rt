@@ -1,22 +1,19 @@
 //! The whole report.
-ghost use Rattle.std.specs.Prelude.{[], OnOk, OnErr, map};
+ghost use Rattle.std.specs.Prelude.{[], OnOk, OnErr};
 ghost use Rattle.std.specs.Io.KnownBytes.{Appends};
-ghost use Rattle.report.specs.Report.{call_rows, line_row, report_text};
+ghost use Rattle.report.specs.Report.{call_rows, report_text};
 ghost use Rattle.texts.specs.Pages.{BeginsWith, CountsWriteFault, rows_text};
 
+use crate::as_row::{ROWS, write_rows};
 use crate::call::put_calls;
 use crate::count::Counts;
 use crate::head::{put_end, put_head};
-use crate::line::put_lines;
 use crate::totals::Totals;
-use record::{Line, Record};
+use record::Record;
 use script::Call;
 use std::alloc::Global;
 use std::io::Write;
 use texts::{Metered, Sheet, WriteFault, send};
-
-/// How many rows are made in memory before they go out.
-const ROWS: usize = 64;
 
 /// Writes the report of a run: a row that names the format and the mode, the limits, the calls of
 /// the script, the lines of the run in order, and a row that counts them. After a fault what was
@@ -36,7 +33,7 @@ pub fn write_record<W: Write>(
     put_head(&mut sheet, script)?;
     send(sheet.text(), to)?;
     write_calls(alloc, &mut sheet, script.calls.as_slice(), to)?;
-    write_lines(&mut sheet, record.lines.as_slice(), to)?;
+    write_rows(&mut sheet, record.lines.as_slice(), to)?;
     sheet.clear();
     put_end(&mut sheet, Totals::of(record.lines.as_slice()))?;
     send(sheet.text(), to)
@@ -57,23 +54,6 @@ pub fn write_calls<W: Write>(
     for some in calls.chunks(ROWS) {
         sheet.clear();
         put_calls(alloc, sheet, some, &mut counts)?;
-        send(sheet.text(), to)?;
-    }
-    Ok(())
-}
-
-fn write_lines<W: Write>(
-    sheet: &mut Sheet,
-    lines: &[Line],
-    to: &mut Metered<W>,
-) -> Result<(), WriteFault>
-    ensures all { OnOk result (Appends (W.contents to.old.inner) (W.contents to.new.inner) (rows_text 7 (map line_row lines.now))) }
-    ensures beginning { OnErr result (BeginsWith (W.contents to.old.inner) (W.contents to.new.inner) (rows_text 7 (map line_row lines.now))) }
-    ensures failures { CountsWriteFault result to.old.failures to.new.failures }
-{
-    for some in lines.chunks(ROWS) {
-        sheet.clear();
-        put_lines(sheet, some)?;
         send(sheet.text(), to)?;
     }
     Ok(())

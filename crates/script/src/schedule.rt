@@ -160,13 +160,13 @@ fn order_of(
 {
     match what {
         OrderKind::Step => {
-            no_kind(kind)?;
+            leave_empty(kind, ScheduleCause::Kind)?;
             let turns = times_of(number)?;
             Ok(Order::Step { client, turns })
         }
         OrderKind::Call => {
-            no_kind(kind)?;
-            no_number(number)?;
+            leave_empty(kind, ScheduleCause::Kind)?;
+            leave_empty(number, ScheduleCause::Number)?;
             Ok(Order::Call { client })
         }
         OrderKind::Until => {
@@ -179,33 +179,19 @@ fn order_of(
             })
         }
         OrderKind::Finish => {
-            no_kind(kind)?;
-            no_number(number)?;
+            leave_empty(kind, ScheduleCause::Kind)?;
+            leave_empty(number, ScheduleCause::Number)?;
             Ok(Order::Finish { client })
         }
     }
 }
 
-fn no_kind(text: &str) -> Result<(), ScheduleCause>
+/// An empty field, as it has to be; another is refused for this cause.
+fn leave_empty(text: &str, cause: ScheduleCause) -> Result<(), ScheduleCause>
     ensures ok { OnOk result (text.now ≡ []) }
-    ensures err { IfErr result (λ cause. (cause ≡ ScheduleCause.Kind) × (text.now ≢ [])) }
+    ensures err { IfErr result (λ why. (why ≡ cause) × (text.now ≢ [])) }
 {
-    if text.is_empty() {
-        Ok(())
-    } else {
-        Err(ScheduleCause::Kind)
-    }
-}
-
-fn no_number(text: &str) -> Result<(), ScheduleCause>
-    ensures ok { OnOk result (text.now ≡ []) }
-    ensures err { IfErr result (λ cause. (cause ≡ ScheduleCause.Number) × (text.now ≢ [])) }
-{
-    if text.is_empty() {
-        Ok(())
-    } else {
-        Err(ScheduleCause::Number)
-    }
+    if text.is_empty() { Ok(()) } else { Err(cause) }
 }
 
 /// How many turns, or steps of a kind: 1 to 1,000,000.

@@ -1,10 +1,11 @@
 //! Large dictionaries that begin with pairs.
-ghost use Rattle.std.specs.Prelude.{IfOk};
+ghost use Rattle.std.specs.Prelude.{◌≡◌, IfOk};
 ghost use Rattle.forest.specs.Passes.{AreNew, IsOf};
 
 use super::TRIES;
 use super::call::Call::{Get, Insert};
 use super::held::Numbers;
+use super::worker::Worker;
 use crate::same::same;
 use arena::Limits;
 use dict::{ByBits, ByOrder, FixedBalance, Reply};
@@ -52,24 +53,31 @@ pub(super) fn alone<B: FixedBalance>(
     }
 }
 
-/// Whether each key has its value, and the one above it has none.
-fn are_got<B: FixedBalance>(
-    alloc: Global,
-    forest: &Forest<Numbers<B>>,
-    pass: &mut Pass<Numbers<B>>,
-    pairs: &[(u64, u64)],
-) -> bool
-    requires { IsOf forest.now pass.old }
-    ensures { IsOf forest.now pass.new }
-{
-    for (key, value) in pairs {
-        let got = Get(*key).make(alloc, forest, pass);
-        let above = Get(key.wrapping_add(1)).make(alloc, forest, pass);
-        if got != Reply::Value(Some(*value)) || above != Reply::Value(None) {
-            return false;
+impl<'a, B: FixedBalance> Worker<'a, B> {
+    /// Whether each key has its value, and the one above it has none.
+    fn gets(&mut self, pairs: &[(u64, u64)]) -> bool
+        ensures { self.new.forest.now ≡ self.old.forest.now }
+    {
+        for (key, value) in pairs {
+            let got = self.make(Get(*key));
+            let above = self.make(Get(key.wrapping_add(1)));
+            if got != Reply::Value(Some(*value)) || above != Reply::Value(None) {
+                return false;
+            }
+        }
+        true
+    }
+
+    /// Puts in the key above that of one pair, whose leaf is full. What the pass has left, if the
+    /// key had no value, or if there was no node left for it.
+    fn split(&mut self, key: u64) -> Option<(u32, u32)>
+        ensures { self.new.forest.now ≡ self.old.forest.now }
+    {
+        match self.make(Insert(key.wrapping_add(1), 1)) {
+            Reply::Value(None) => Some(self.pass.left()),
+            _ => None,
         }
     }
-    true
 }
 
 /// A dictionary begins with these pairs, and a pass that gets them has its whole share.
@@ -78,27 +86,12 @@ fn begun<B: FixedBalance>(
     alloc: Global,
     pairs: &[(u64, u64)],
 ) -> Result<Closed<Numbers<B>>, Fail> {
-    let (forest, mut pass) = alone(Forest::<Numbers<B>>::of_pairs(alloc, ALONE, pairs))?;
-    assert!(rt; are_got(alloc, &forest, &mut pass, pairs));
-    same(rt, pass.left(), (9, 9));
+    let (forest, pass) = alone(Forest::<Numbers<B>>::of_pairs(alloc, ALONE, pairs))?;
+    let mut worker = Worker::new(alloc, &forest, pass);
+    assert!(rt; worker.gets(pairs));
+    same(rt, worker.pass.left(), (9, 9));
+    let pass = worker.pass;
     Ok(forest.end(pass))
-}
-
-/// Puts in the key above that of one pair, whose leaf is full. What the pass has left, if the key
-/// had no value, or if there was no node left for it.
-fn split<B: FixedBalance>(
-    alloc: Global,
-    forest: &Forest<Numbers<B>>,
-    pass: &mut Pass<Numbers<B>>,
-    key: u64,
-) -> Option<(u32, u32)>
-    requires { IsOf forest.now pass.old }
-    ensures { IsOf forest.now pass.new }
-{
-    match Insert(key.wrapping_add(1), 1).make(alloc, forest, pass) {
-        Reply::Value(None) => Some(pass.left()),
-        _ => None,
-    }
 }
 
 /// What was closed is renewed, and its pass puts in a key for each three nodes of its share, and
@@ -109,7 +102,8 @@ fn goes_on<B: FixedBalance>(
     closed: &Closed<Numbers<B>>,
     step: u64,
 ) -> Result<(), Fail> {
-    let (forest, mut pass) = alone(closed.renewed(alloc, ALONE))?;
+    let (forest, pass) = alone(closed.renewed(alloc, ALONE))?;
+    let mut worker = Worker::new(alloc, &forest, pass);
     for (number, left) in [
         (0, Some((6, 8))),
         (MANY / 20, Some((3, 7))),
@@ -117,9 +111,9 @@ fn goes_on<B: FixedBalance>(
         (MANY / 4 * 3, None),
     ] {
         let key = step.wrapping_mul(number);
-        same(rt, split(alloc, &forest, &mut pass, key), left);
+        same(rt, worker.split(key), left);
     }
-    same(rt, pass.left(), (0, 6));
+    same(rt, worker.pass.left(), (0, 6));
     Ok(())
 }
 

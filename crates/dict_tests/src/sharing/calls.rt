@@ -101,19 +101,19 @@ fn five_keys_come_and_go(rt: HostRuntime) -> Result<(), Fail> {
 }
 
 /// Next to each other, and different in both words.
-const BELOW: u128 = 18446744073709551615;
+const BELOW: u128 = ABOVE - 1;
 
-const ABOVE: u128 = 18446744073709551616;
+const ABOVE: u128 = 1 << 64;
 
 /// They differ in the high word alone, which is 0, 1 and 2.
 const NONE: u128 = 5;
 
-const ONE: u128 = 18446744073709551621;
+const ONE: u128 = NONE + ABOVE;
 
-const TWO: u128 = 36893488147419103237;
+const TWO: u128 = ONE + ABOVE;
 
 /// It differs from `ONE` in the low word alone.
-const NEXT: u128 = 18446744073709551622;
+const NEXT: u128 = ONE + 1;
 
 /// What is expected differs from what is there by each of the two words.
 const TWO_WORDS: [Row<'static, u64, u128>; 37] = [

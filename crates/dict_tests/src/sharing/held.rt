@@ -74,31 +74,13 @@ const PUT: &[Kind] = &[
 /// That freeze finds another SCX-record there.
 const LOST: &[Kind] = &[Freeze, LoadAllFrozen, GiveUp];
 
-/// The walk to the leaf of one pair below a fork, whose pair is read.
-const AGAIN: &[Kind] = &[
-    LoadSettled,
-    LoadChild,
-    LoadSettled,
-    LoadChild,
-    LoadSettled,
-    LoadSettled,
-    LoadSettled,
-];
+/// On to the leaf of one pair below a fork, whose pair is read.
+const ON: &[Kind] = &[LoadChild, LoadSettled, LoadSettled, LoadSettled];
 
 const PAIR: &[Kind] = &[LoadSettled; 3];
 
-/// A get of it.
-const READ: &[Kind] = &[
-    LoadSettled,
-    LoadChild,
-    LoadSettled,
-    LoadChild,
-    LoadSettled,
-    LoadSettled,
-    LoadSettled,
-    LoadSettled,
-    LoadSettled,
-];
+/// What a get reads of it besides.
+const VALUE: &[Kind] = &[LoadSettled; 2];
 
 /// Makes this many steps of a call, or fewer if it is over before, and notes their kinds. Returns
 /// whether the call is not over.
@@ -224,7 +206,7 @@ const TOO_LATE: Case = Case {
         (Get(5), Value(None), (17, 19)),
     ],
     kinds: Some(&[
-        WALK, LOOKS, NODES, READY, LOST, AGAIN, LOOKS, PAIR, LEAF, READY, PUT,
+        WALK, LOOKS, NODES, READY, LOST, WALK, ON, LOOKS, PAIR, LEAF, READY, PUT,
     ]),
     left: [(16, 18), (17, 19)],
     ..HELPED
@@ -286,7 +268,7 @@ const GET: Case = Case {
         (Get(5), Value(None), (16, 18)),
     ],
     told: Value(Some(50)),
-    kinds: Some(&[READ]),
+    kinds: Some(&[WALK, ON, VALUE]),
     behind: &[(Get(5), Value(None), (20, 20))],
     left: [(20, 20), (16, 18)],
     pairs: &[],

@@ -1,17 +1,18 @@
 //! Dictionaries that begin with what another was left with, again and again.
-ghost use Rattle.std.specs.Prelude.{IfOk};
+ghost use Rattle.std.specs.Prelude.{◌≡◌, IfOk};
 ghost use Rattle.std.specs.List.{All};
 ghost use Rattle.forest.specs.Passes.{IsOf};
 
 use super::beginnings::Opened;
 use super::call::Call::{self, Delete, Insert, InsertNew, PopFirst, PopLast, Successor};
 use super::held::Numbers;
-use super::threads::{changed, part, reply_of, stirred};
+use super::threads::{part, stirred};
+use super::worker::Worker;
 use super::{closed, limits};
 use arena::Limits;
 use dict::{ByBits, ByOrder, FixedBalance, Reply};
 use forest::{Closed, Forest, Pass};
-use std::alloc::{AllocError, Global};
+use std::alloc::Global;
 use std::process::Abort;
 use std::test::Fail;
 use std::thread::{Threads, map_vec};
@@ -102,62 +103,58 @@ fn drawn(number: u64) -> Call<u64, u64> {
     }
 }
 
-/// Makes an edit, and answers by how much the pairs have become more: none, if it was refused.
-fn made<B: FixedBalance>(
-    alloc: Global,
-    forest: &Forest<Numbers<B>>,
-    pass: &mut Pass<Numbers<B>>,
-    edit: Call<u64, u64>,
-) -> Option<Tally>
-    requires { IsOf forest.now pass.old }
-    ensures { IsOf forest.now pass.new }
-{
-    match reply_of(alloc, forest, pass, edit)? {
-        Reply::Full(_) | Reply::NoMemory => None,
-        reply => match changed(edit, &reply) {
-            Some((key, old, new)) => Some(Tally::of(key, new).less(Tally::of(key, old))),
-            None => Some(Tally::NONE),
-        },
+impl<'a, B: FixedBalance> Worker<'a, B> {
+    /// Makes an edit, and answers by how much the pairs have become more: none, if it was refused.
+    fn made(&mut self, edit: Call<u64, u64>) -> Option<Tally>
+        ensures { self.new.forest.now ≡ self.old.forest.now }
+    {
+        let Some((key, old, new)) = self.change(edit)? else {
+            return Some(Tally::NONE);
+        };
+        Some(Tally::of(key, new).less(Tally::of(key, old)))
+    }
+
+    /// What a thread does in a round, and by how much the pairs have become more by it.
+    fn work(&mut self, time: u64) -> Option<Tally>
+        ensures { self.new.forest.now ≡ self.old.forest.now }
+    {
+        let worker = time.wrapping_mul(MOST_THREADS).wrapping_add(self.number());
+        let mut all = Tally::NONE;
+        for call in 0..CALLS {
+            let number = worker.wrapping_mul(CALLS).wrapping_add(call);
+            all = all.and(self.made(drawn(number))?);
+        }
+        Some(all)
+    }
+
+    /// Whether these are just the pairs that it finds, one above the other. No key is 0.
+    fn finds(&mut self, pairs: &[(u64, u64)]) -> bool
+        ensures { self.new.forest.now ≡ self.old.forest.now }
+    {
+        let mut before = 0;
+        for pair in pairs {
+            if self.make(Successor(before)) != Reply::Pair(Some(*pair)) {
+                return false;
+            }
+            before = pair.0;
+        }
+        self.make(Successor(before)) == Reply::Pair(None)
     }
 }
 
-/// What a thread does in a round, and by how much the pairs have become more by it.
+/// The same of a thread, with its pass.
 fn work<B: FixedBalance>(
     alloc: Global,
     forest: &Forest<Numbers<B>>,
     time: u64,
-    mut pass: Pass<Numbers<B>>,
+    pass: Pass<Numbers<B>>,
 ) -> (Pass<Numbers<B>>, Option<Tally>)
     requires { IsOf forest.now pass }
     ensures { IsOf forest.now result.0 }
 {
-    let worker = time
-        .wrapping_mul(MOST_THREADS)
-        .wrapping_add(u64::from(pass.number().0));
-    let mut all = Tally::NONE;
-    for call in 0..CALLS {
-        let number = worker.wrapping_mul(CALLS).wrapping_add(call);
-        match made(alloc, forest, &mut pass, drawn(number)) {
-            Some(more) => all = all.and(more),
-            None => return (pass, None),
-        }
-    }
-    (pass, Some(all))
-}
-
-/// The passes work, each in a thread of its own.
-fn worked<R: Threads + Sync, B: FixedBalance + Send + Sync>(
-    rt: &R,
-    alloc: Global,
-    forest: &Forest<Numbers<B>>,
-    time: u64,
-    passes: Vec<Pass<Numbers<B>>>,
-) -> Result<(Vec<Pass<Numbers<B>>>, Vec<Option<Tally>>), AllocError>
-    requires { All (IsOf forest.now) passes.items }
-    ensures { IfOk result (λ r. All (IsOf forest.now) r.0.items) }
-{
-    let workers = map_vec(rt, passes, &|pass| work(alloc, forest, time, pass))?;
-    part(alloc, forest, workers)
+    let mut worker = Worker::new(alloc, forest, pass);
+    let more = worker.work(time);
+    (worker.pass, more)
 }
 
 /// The pairs that there were, with what all threads have added.
@@ -167,26 +164,6 @@ fn with_all(before: &[(u64, u64)], added: &[Option<Tally>]) -> Option<Tally> {
         all = all.and((*more)?);
     }
     Some(all)
-}
-
-/// Whether these are just the pairs that a pass finds, one above the other. No key is 0.
-fn finds<B: FixedBalance>(
-    alloc: Global,
-    forest: &Forest<Numbers<B>>,
-    pass: &mut Pass<Numbers<B>>,
-    pairs: &[(u64, u64)],
-) -> bool
-    requires { IsOf forest.now pass.old }
-    ensures { IsOf forest.now pass.new }
-{
-    let mut before = 0;
-    for pair in pairs {
-        if Successor(before).make(alloc, forest, pass) != Reply::Pair(Some(*pair)) {
-            return false;
-        }
-        before = pair.0;
-    }
-    Successor(before).make(alloc, forest, pass) == Reply::Pair(None)
 }
 
 /// The limits of the one after this time: mostly the same, now and then others.
@@ -211,16 +188,17 @@ fn next<B: FixedBalance>(
     let Ok((forest, mut passes)) = closed.renewed(alloc, next_limits(time)) else {
         return Err("not renewed".into());
     };
-    let Some(mut pass) = passes.pop() else {
+    let Some(pass) = passes.pop() else {
         return Err("no pass".into());
     };
-    assert!(rt; finds(alloc, &forest, &mut pass, pairs));
-    passes.push(pass)?;
+    let mut worker = Worker::new(alloc, &forest, pass);
+    assert!(rt; worker.finds(pairs));
+    passes.push(worker.pass)?;
     Ok((forest, passes))
 }
 
-/// The threads work on a dictionary that began with these pairs. Those that are left are what they
-/// say, and the next dictionary begins with them.
+/// The passes work, each in a thread of its own, on a dictionary that began with these pairs. Those
+/// that are left are what they say, and the next dictionary begins with them.
 fn renewed<R: Threads + Sync + Abort, B: FixedBalance + Send + Sync>(
     rt: &R,
     alloc: Global,
@@ -232,7 +210,8 @@ fn renewed<R: Threads + Sync + Abort, B: FixedBalance + Send + Sync>(
     ensures { IfOk result (λ r. All (IsOf r.0) r.1.items) }
 {
     let (forest, passes) = opened;
-    let (passes, added) = worked(rt, alloc, &forest, time, passes)?;
+    let workers = map_vec(rt, passes, &|pass| work(alloc, &forest, time, pass))?;
+    let (passes, added) = part(alloc, &forest, workers)?;
     let Some(closed) = closed(forest, passes) else {
         return Err("a pass is missing".into());
     };

@@ -1,5 +1,5 @@
 //! Threads that change one dictionary.
-ghost use Rattle.std.specs.Prelude.{◌≡◌, IfOk, IfSome};
+ghost use Rattle.std.specs.Prelude.{◌≡◌, IfOk};
 ghost use Rattle.std.specs.List.{All};
 ghost use Rattle.forest.specs.Passes.{IsOf};
 
@@ -9,6 +9,8 @@ use super::call::Call::{
 };
 use super::call::pairs_told;
 use super::held::Numbers;
+use super::schedules::WAITING;
+use super::worker::{MOST_ASKS, Out, Worker, weight};
 use super::{end, limits};
 use dict::{ByBits, ByOrder, FixedBalance, Reply};
 use forest::{Forest, Pass};
@@ -20,33 +22,11 @@ use std::thread::{Threads, map_vec};
 /// How many rounds a thread makes.
 const ROUNDS: u64 = 1000;
 
-/// How often a call that was contended is asked again.
-const MOST_ASKS: u32 = 1000;
-
-/// How often a thread counts up.
-const COUNTS: u64 = 500;
-
-/// How many of the eleven calls a thread makes.
-const CALLS: u64 = 50;
-
 /// How many keys the window has.
 const WINDOW: u64 = 20;
 
 /// How many threads put in the same keys.
 const RIVALS: u64 = 8;
-
-/// How many jobs a scheduler's thread puts in in a round: so few that its share lasts, with all the
-/// tries that it loses to the other.
-const JOBS: u64 = 4;
-
-/// In so many of its first rounds it takes none out.
-const FILLING: u64 = 50;
-
-/// How many jobs wait once two threads have done so.
-const WAITING: usize = 2 * (JOBS * FILLING) as usize;
-
-/// So many races of two schedulers' threads make a million calls.
-const SCHEDULES: usize = 65;
 
 /// What a thread does in each of its rounds.
 #[derive(Clone, Copy)]
@@ -64,17 +44,15 @@ enum Work {
     First { keys: u64 },
     /// It takes out the first pair, or, where its number is odd, the last.
     Pop,
-    /// It makes one of the eleven calls. What this adds to the sum of the pairs comes out.
-    Any,
+    /// It makes one of the eleven calls in each of its first rounds. What this adds to the sum of
+    /// the pairs comes out.
+    Any { rounds: u64 },
     /// It puts in keys that rise, and takes the first pair out after each, as two schedulers' threads
     /// do. What this adds to the sum of the pairs comes out.
     Schedule,
-    /// It adds one to the value of the key 0, until it has done so as many times as it is to.
-    Count,
+    /// It adds one to the value of the key 0 in each of its first rounds.
+    Count { rounds: u64 },
 }
-
-/// What came out in a round, where it was right.
-type Out = Option<Option<u64>>;
 
 /// What came out in each round.
 type Outs = [Out; ROUNDS as usize];
@@ -94,75 +72,6 @@ fn is_told(out: Out, want: Option<u64>) -> Out {
     if out? == want { Some(None) } else { None }
 }
 
-/// Makes a call, again where it was contended.
-pub(super) fn reply_of<B: FixedBalance>(
-    alloc: Global,
-    forest: &Forest<Numbers<B>>,
-    pass: &mut Pass<Numbers<B>>,
-    call: Call<u64, u64>,
-) -> Option<Reply<u64, u64>>
-    requires { IsOf forest.now pass.old }
-    ensures { IsOf forest.now pass.new }
-{
-    for _ask in 0..MOST_ASKS {
-        match call.make(alloc, forest, pass) {
-            Reply::Contended { .. } => {}
-            reply => return Some(reply),
-        }
-    }
-    None
-}
-
-/// Makes an edit.
-fn ask<B: FixedBalance>(
-    alloc: Global,
-    forest: &Forest<Numbers<B>>,
-    pass: &mut Pass<Numbers<B>>,
-    edit: Call<u64, u64>,
-) -> Out
-    requires { IsOf forest.now pass.old }
-    ensures { IsOf forest.now pass.new }
-{
-    told(reply_of(alloc, forest, pass, edit)?)
-}
-
-/// Adds one to the value of the key 0, and answers what it was. If another thread has changed it
-/// meanwhile, or was in the way, it is read again.
-fn count_up<B: FixedBalance>(
-    alloc: Global,
-    forest: &Forest<Numbers<B>>,
-    pass: &mut Pass<Numbers<B>>,
-) -> Out
-    requires { IsOf forest.now pass.old }
-    ensures { IsOf forest.now pass.new }
-{
-    for _ask in 0..MOST_ASKS {
-        let value = told(Get(0).make(alloc, forest, pass))??;
-        let edit = ReplaceIf(0, value, value.wrapping_add(1));
-        if told(edit.make(alloc, forest, pass)) == Some(Some(value)) {
-            return Some(Some(value));
-        }
-    }
-    None
-}
-
-/// Puts in the key after the window's last, and takes out its first once there are enough.
-fn move_window<B: FixedBalance>(
-    alloc: Global,
-    forest: &Forest<Numbers<B>>,
-    pass: &mut Pass<Numbers<B>>,
-    round: u64,
-) -> Out
-    requires { IsOf forest.now pass.old }
-    ensures { IsOf forest.now pass.new }
-{
-    is_told(ask(alloc, forest, pass, Insert(round, round)), None)?;
-    match round.checked_sub(WINDOW) {
-        Some(first) => is_told(ask(alloc, forest, pass, Delete(first)), Some(first)),
-        None => Some(None),
-    }
-}
-
 /// Whether these are the pairs of a window: of its keys or of one more, each one above the one
 /// before; or of fewer from 0 on.
 fn is_window(pairs: &[(u64, u64)]) -> bool {
@@ -179,22 +88,6 @@ fn is_window(pairs: &[(u64, u64)]) -> bool {
     steps && (many == WINDOW || many == WINDOW + 1 || first == 0 && many < WINDOW)
 }
 
-/// Looks at the window, and answers how many keys it has seen. A look that is refused sees nothing.
-fn see_window<B: FixedBalance>(
-    alloc: Global,
-    forest: &Forest<Numbers<B>>,
-    pass: &mut Pass<Numbers<B>>,
-) -> Out
-    requires { IsOf forest.now pass.old }
-    ensures { IsOf forest.now pass.new }
-{
-    match pairs_told(Range(0, u64::MAX, 64).make(alloc, forest, pass)) {
-        Some(pairs) if is_window(&pairs) => Some(Some(pairs.len() as u64)),
-        Some(_) => None,
-        None => Some(None),
-    }
-}
-
 /// Puts in or takes out a key by turns. No two rounds of all threads put in the same value.
 fn mixed(value: u64) -> Call<u64, u64> {
     let key = stirred(value) % 100;
@@ -202,26 +95,6 @@ fn mixed(value: u64) -> Call<u64, u64> {
         Insert(key, value)
     } else {
         Delete(key)
-    }
-}
-
-/// Puts in a key where it is absent, with this thread's value of it, which is answered if it was.
-/// If it was not, the key had the value of another thread.
-fn put_new<B: FixedBalance>(
-    alloc: Global,
-    forest: &Forest<Numbers<B>>,
-    pass: &mut Pass<Numbers<B>>,
-    key: u64,
-) -> Out
-    requires { IsOf forest.now pass.old }
-    ensures { IsOf forest.now pass.new }
-{
-    let number = u64::from(pass.number().0);
-    let value = key.wrapping_mul(RIVALS).wrapping_add(number);
-    match ask(alloc, forest, pass, InsertNew(key, value))? {
-        None => Some(Some(value)),
-        Some(other) if other / RIVALS == key && other != value => Some(None),
-        Some(_) => None,
     }
 }
 
@@ -243,116 +116,16 @@ fn any(draw: u64) -> Call<u64, u64> {
     }
 }
 
-/// What a key with this value, if it has one, is to the sum of the pairs.
-fn weight(key: u64, value: Option<u64>) -> u64 {
-    match value {
-        Some(value) => key.wrapping_mul(1000).wrapping_add(value),
-        None => 0,
-    }
-}
-
-/// The key that a call has changed, if it replies this, with the value that the key had, and the
-/// one that it has now.
-pub(super) fn changed(
-    call: Call<u64, u64>,
-    reply: &Reply<u64, u64>,
-) -> Option<(u64, Option<u64>, Option<u64>)> {
-    match (call, reply) {
-        (Insert(key, value), Reply::Value(old)) => Some((key, *old, Some(value))),
-        (InsertNew(key, value), Reply::Value(None)) => Some((key, None, Some(value))),
-        (Delete(key), Reply::Value(old)) => Some((key, *old, None)),
-        (DeleteIf(key, expected), Reply::Value(Some(old))) if *old == expected => {
-            Some((key, Some(*old), None))
-        }
-        (ReplaceIf(key, expected, value), Reply::Value(Some(old))) if *old == expected => {
-            Some((key, Some(*old), Some(value)))
-        }
-        (PopFirst | PopLast, Reply::Pair(Some(pair))) => Some((pair.0, Some(pair.1), None)),
-        _ => None,
-    }
-}
-
-/// Makes a call, and answers what it adds to the sum of the pairs.
-fn add_up<B: FixedBalance>(
-    alloc: Global,
-    forest: &Forest<Numbers<B>>,
-    pass: &mut Pass<Numbers<B>>,
-    call: Call<u64, u64>,
-) -> Out
-    requires { IsOf forest.now pass.old }
-    ensures { IsOf forest.now pass.new }
-{
-    match reply_of(alloc, forest, pass, call)? {
-        Reply::Full(_) | Reply::NoMemory => None,
-        reply => match changed(call, &reply) {
-            Some((key, old, new)) => Some(Some(weight(key, new).wrapping_sub(weight(key, old)))),
-            None => Some(None),
-        },
-    }
-}
-
-/// Puts a job in, and, once enough wait, takes the first one out: there is one, since no thread has
-/// taken out more than it has put in.
-fn schedule<B: FixedBalance>(
-    alloc: Global,
-    forest: &Forest<Numbers<B>>,
-    pass: &mut Pass<Numbers<B>>,
-    job: u64,
-) -> Out
-    requires { IsOf forest.now pass.old }
-    ensures { IsOf forest.now pass.new }
-{
-    let key = job.wrapping_mul(2).wrapping_add(u64::from(pass.number().0));
-    let put = add_up(alloc, forest, pass, Insert(key, job))??;
-    if job < FILLING * JOBS {
-        return Some(Some(put));
-    }
-    let taken = add_up(alloc, forest, pass, PopFirst)??;
-    Some(Some(put.wrapping_add(taken)))
-}
-
-/// Does so with the jobs of a round.
-fn schedule_all<B: FixedBalance>(
-    alloc: Global,
-    forest: &Forest<Numbers<B>>,
-    pass: &mut Pass<Numbers<B>>,
-    round: u64,
-) -> Out
-    requires { IsOf forest.now pass.old }
-    ensures { IsOf forest.now pass.new }
-{
-    let mut sum = 0u64;
-    for number in 0..JOBS {
-        let job = round.wrapping_mul(JOBS).wrapping_add(number);
-        sum = sum.wrapping_add(schedule(alloc, forest, pass, job)??);
-    }
-    Some(Some(sum))
-}
-
 /// A number that depends on all of this one.
 pub(super) fn stirred(number: u64) -> u64 {
     number.wrapping_mul(11_400_714_819_323_198_485) / 65_536
-}
-
-/// Puts a key in that is not there, with itself as its value.
-fn put_same<B: FixedBalance>(
-    alloc: Global,
-    forest: &Forest<Numbers<B>>,
-    pass: &mut Pass<Numbers<B>>,
-    key: u64,
-) -> Out
-    requires { IsOf forest.now pass.old }
-    ensures { IsOf forest.now pass.new }
-{
-    is_told(ask(alloc, forest, pass, Insert(key, key)), None)
 }
 
 /// Whether a thread has nothing to do in this round any more.
 fn is_over(work: Work, number: u64, round: u64) -> bool {
     match work {
         Work::First { keys } => number != 0 || keys <= round,
-        Work::Any => CALLS <= round,
-        Work::Count => COUNTS <= round,
+        Work::Any { rounds } | Work::Count { rounds } => rounds <= round,
         _ => false,
     }
 }
@@ -362,38 +135,97 @@ fn pop_of(number: u64) -> Call<u64, u64> {
     if number % 2 == 0 { PopFirst } else { PopLast }
 }
 
-/// A round of a thread.
-fn make_round<B: FixedBalance>(
-    alloc: Global,
-    forest: &Forest<Numbers<B>>,
-    work: Work,
-    pass: &mut Pass<Numbers<B>>,
-    round: u64,
-) -> Out
-    requires { IsOf forest.now pass.old }
-    ensures { IsOf forest.now pass.new }
-{
-    let number = u64::from(pass.number().0);
-    if is_over(work, number, round) {
-        return Some(None);
+impl<'a, B: FixedBalance> Worker<'a, B> {
+    /// Makes an edit.
+    fn edit(&mut self, edit: Call<u64, u64>) -> Out
+        ensures { self.new.forest.now ≡ self.old.forest.now }
+    {
+        told(self.ask(edit)?)
     }
-    // In no order, so that the tree does not grow to one side.
-    let place = round.wrapping_mul(377) % ROUNDS;
-    let value = number.wrapping_mul(ROUNDS).wrapping_add(round);
-    match work {
-        Work::Own { threads } => {
-            let key = threads.wrapping_mul(place).wrapping_add(number);
-            put_same(alloc, forest, pass, key)
+
+    /// Adds one to the value of the key 0, and answers what it was. If another thread has changed it
+    /// meanwhile, or was in the way, it is read again.
+    fn count_up(&mut self) -> Out
+        ensures { self.new.forest.now ≡ self.old.forest.now }
+    {
+        for _ask in 0..MOST_ASKS {
+            let value = told(self.make(Get(0)))??;
+            let edit = ReplaceIf(0, value, value.wrapping_add(1));
+            if told(self.make(edit)) == Some(Some(value)) {
+                return Some(Some(value));
+            }
         }
-        Work::New => put_new(alloc, forest, pass, place),
-        Work::Mixed => ask(alloc, forest, pass, mixed(value)),
-        Work::Window if number == 0 => move_window(alloc, forest, pass, round),
-        Work::Window => see_window(alloc, forest, pass),
-        Work::First { .. } => put_same(alloc, forest, pass, round),
-        Work::Pop => ask(alloc, forest, pass, pop_of(number)),
-        Work::Any => add_up(alloc, forest, pass, any(stirred(value))),
-        Work::Schedule => schedule_all(alloc, forest, pass, round),
-        Work::Count => count_up(alloc, forest, pass),
+        None
+    }
+
+    /// Puts a key in that is not there, with itself as its value.
+    fn put_same(&mut self, key: u64) -> Out
+        ensures { self.new.forest.now ≡ self.old.forest.now }
+    {
+        is_told(self.edit(Insert(key, key)), None)
+    }
+
+    /// Puts in a key where it is absent, with this thread's value of it, which is answered if it
+    /// was. If it was not, the key had the value of another thread.
+    fn put_new(&mut self, key: u64) -> Out
+        ensures { self.new.forest.now ≡ self.old.forest.now }
+    {
+        let value = key.wrapping_mul(RIVALS).wrapping_add(self.number());
+        match self.edit(InsertNew(key, value))? {
+            None => Some(Some(value)),
+            Some(other) if other / RIVALS == key && other != value => Some(None),
+            Some(_) => None,
+        }
+    }
+
+    /// Puts in the key after the window's last, and takes out its first once there are enough.
+    fn move_window(&mut self, round: u64) -> Out
+        ensures { self.new.forest.now ≡ self.old.forest.now }
+    {
+        self.put_same(round)?;
+        match round.checked_sub(WINDOW) {
+            Some(first) => is_told(self.edit(Delete(first)), Some(first)),
+            None => Some(None),
+        }
+    }
+
+    /// Looks at the window, and answers how many keys it has seen. A look that is refused sees
+    /// nothing.
+    fn see_window(&mut self) -> Out
+        ensures { self.new.forest.now ≡ self.old.forest.now }
+    {
+        match pairs_told(self.make(Range(0, u64::MAX, 64))) {
+            Some(pairs) if is_window(&pairs) => Some(Some(pairs.len() as u64)),
+            Some(_) => None,
+            None => Some(None),
+        }
+    }
+
+    /// A round of a thread.
+    fn make_round(&mut self, work: Work, round: u64) -> Out
+        ensures { self.new.forest.now ≡ self.old.forest.now }
+    {
+        let number = self.number();
+        if is_over(work, number, round) {
+            return Some(None);
+        }
+        // In no order, so that the tree does not grow to one side.
+        let place = round.wrapping_mul(377) % ROUNDS;
+        let value = number.wrapping_mul(ROUNDS).wrapping_add(round);
+        match work {
+            Work::Own { threads } => {
+                self.put_same(threads.wrapping_mul(place).wrapping_add(number))
+            }
+            Work::New => self.put_new(place),
+            Work::Mixed => self.edit(mixed(value)),
+            Work::Window if number == 0 => self.move_window(round),
+            Work::Window => self.see_window(),
+            Work::First { .. } => self.put_same(round),
+            Work::Pop => self.edit(pop_of(number)),
+            Work::Any { .. } => self.add_up(any(stirred(value))),
+            Work::Schedule => self.schedule_all(round),
+            Work::Count { .. } => self.count_up(),
+        }
     }
 }
 
@@ -402,16 +234,17 @@ fn make_rounds<B: FixedBalance>(
     alloc: Global,
     forest: &Forest<Numbers<B>>,
     work: Work,
-    mut pass: Pass<Numbers<B>>,
+    pass: Pass<Numbers<B>>,
 ) -> (Pass<Numbers<B>>, Outs)
     requires { IsOf forest.now pass }
     ensures { IsOf forest.now result.0 }
 {
+    let mut worker = Worker::new(alloc, forest, pass);
     let mut outs = [None; ROUNDS as usize];
     for round in 0..ROUNDS {
-        outs[round as usize] = make_round(alloc, forest, work, &mut pass, round);
+        outs[round as usize] = worker.make_round(work, round);
     }
-    (pass, outs)
+    (worker.pass, outs)
 }
 
 /// The passes, and what came out.
@@ -633,10 +466,15 @@ const RACES: [Race; 7] = [
         Left::Keys(0, 0),
         Come::Steps(4000, 1),
     ),
-    (32, [NOTHING, Work::Any], Left::Some, Come::Sum),
+    (
+        32,
+        [NOTHING, Work::Any { rounds: 50 }],
+        Left::Some,
+        Come::Sum,
+    ),
     (
         8,
-        [Work::First { keys: 1 }, Work::Count],
+        [Work::First { keys: 1 }, Work::Count { rounds: 500 }],
         Left::Count(4000),
         Come::Steps(4001, 1),
     ),
@@ -667,6 +505,9 @@ fn threads_share_a_tree(rt: HostRuntime) -> Result<(), Fail> {
 fn threads_share_a_trie(rt: HostRuntime) -> Result<(), Fail> {
     races_are_right::<HostRuntime, ByBits>(&rt, rt.alloc(), &RACES)
 }
+
+/// So many races of two schedulers' threads make a million calls.
+const SCHEDULES: usize = 65;
 
 #[test]
 fn two_schedulers_share_a_trie(rt: HostRuntime) -> Result<(), Fail> {

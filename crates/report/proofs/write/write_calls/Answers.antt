@@ -1,9 +1,10 @@
-use Rattle.std.proofs.Common.{◌≡◌, ◌+◌, ◌<◌, ◌^◌, ◌++◌, ◌∙◌, [], ap, arith, length, length-append, refl, reverse, subst}
+use Rattle.std.proofs.Common.{◌+◌, ◌++◌, ◌∙◌, [], ap, arith, length, length-append, refl, reverse}
 use Rattle.std.proofs.lemmas.List.{length-reverse}
 use Rattle.report.specs.Report.{call_rows}
 use Rattle.texts.specs.Pages.{rows_text}
-use Rattle.report.proofs.CallRows.{call_text_append, no_call_rows}
-use Rattle.report.proofs.Texts.{chunk_text, IsSent, all_sent, none_sent, on_err, part_sent, piece_sent, so_far_sent}
+use Rattle.report.proofs.CallRows.{call_text_after, no_call_rows}
+use Rattle.report.proofs.Outcomes.{counts_chunk}
+use Rattle.report.proofs.Texts.{chunk_text, all_sent, next_part_sent, next_sent, none_sent, on_err, so_far_sent}
 use Rattle.report.proofs.write.write_calls.Goals as goal
 
 pub loop-some-init : goal.loop-some-init
@@ -21,21 +22,15 @@ pub loop-some-preserved : goal.loop-some-preserved
 loop-some-preserved g c =
     let x = c.loop-some.invariant in
     let some = c.in-Some.some.now in
-    let left = c.next.new.self.rest.now in
     let split = c.in-Some.ensures.steps.1.0 in
-    let lengths : length c.loop-some.some-iterator.rest.now ≡ length some + length left = ap (λ calls. length calls) split ∙ length-append some left in
-    let bound : length x.earlier + length some < 2 ^ 64 = omega (arith, x.all, lengths) in
-    let old = g.W.Write.contents c.args.to.now.inner in
-    let mid = g.W.Write.contents c.loop-some.to.inner in
-    let whole = rows_text 7 (call_rows [] c.args.calls.now) in
+    let all = counts_chunk (length x.earlier) _ _ some _ split x.all in
     record {
       failures = c.in_ok-send.ensures.ok ∙ x.failures;
       earlier = reverse some ++ x.earlier;
-      counted = rw c.in_ok-put_calls.was at (c.put_calls.ensures.counted x.earlier x.counted bound);
-      all = rw (length-append (reverse some) x.earlier, length-reverse some) (omega (arith, x.all, lengths));
-      sent = piece_sent old mid _ (rows_text 7 (call_rows x.earlier some)) (rows_text 7 (call_rows (reverse some ++ x.earlier) left)) whole
-          (subst (λ text. IsSent old mid text whole) (ap (λ calls. rows_text 7 (call_rows x.earlier calls)) split ∙ call_text_append x.earlier some left) x.sent)
-          (rw (chunk_text _ _ _ _ c.text.ensures (rw c.in_ok-put_calls.was at (c.put_calls.ensures.rows x.earlier x.counted bound)) c.clear.ensures.text) at c.in_ok-send.ensures.all);
+      counted = rw c.in_ok-put_calls.was at (c.put_calls.ensures.counted x.earlier x.counted (omega (arith, all)));
+      all = rw (length-append (reverse some) x.earlier, length-reverse some) (omega (arith, all));
+      sent = next_sent _ _ _ _ (rows_text 7 (call_rows x.earlier some)) _ _ (call_text_after x.earlier _ some _ split) x.sent
+          (rw (chunk_text _ _ _ _ c.text.ensures (rw c.in_ok-put_calls.was at (c.put_calls.ensures.rows x.earlier x.counted (omega (arith, all)))) c.clear.ensures.text) at c.in_ok-send.ensures.all);
     }
 
 pub returns-clause-all : goal.returns-clause-all
@@ -50,14 +45,8 @@ pub returns-in_err-send-clause-beginning : goal.returns-in_err-send-clause-begin
 returns-in_err-send-clause-beginning g c =
     let x = c.loop-some.invariant in
     let some = c.in-Some.some.now in
-    let left = c.next.new.self.rest.now in
     let split = c.in-Some.ensures.steps.1.0 in
-    let lengths : length c.loop-some.some-iterator.rest.now ≡ length some + length left = ap (λ calls. length calls) split ∙ length-append some left in
-    let bound : length x.earlier + length some < 2 ^ 64 = omega (arith, x.all, lengths) in
-    let old = g.W.Write.contents c.args.to.now.inner in
-    let mid = g.W.Write.contents c.loop-some.to.inner in
-    let whole = rows_text 7 (call_rows [] c.args.calls.now) in
+    let all = counts_chunk (length x.earlier) _ _ some _ split x.all in
     on_err c.from_residual-in_err-send.result
-    (part_sent old mid _ (rows_text 7 (call_rows x.earlier some)) (rows_text 7 (call_rows (reverse some ++ x.earlier) left)) whole
-    (subst (λ text. IsSent old mid text whole) (ap (λ calls. rows_text 7 (call_rows x.earlier calls)) split ∙ call_text_append x.earlier some left) x.sent)
-    (rw (chunk_text _ _ _ _ c.text.ensures (rw c.in_ok-put_calls.was at (c.put_calls.ensures.rows x.earlier x.counted bound)) c.clear.ensures.text) at c.in_err-send.ensures.beginning))
+    (next_part_sent _ _ _ _ (rows_text 7 (call_rows x.earlier some)) _ _ (call_text_after x.earlier _ some _ split) x.sent
+    (rw (chunk_text _ _ _ _ c.text.ensures (rw c.in_ok-put_calls.was at (c.put_calls.ensures.rows x.earlier x.counted (omega (arith, all)))) c.clear.ensures.text) at c.in_err-send.ensures.beginning))

@@ -1,0 +1,5 @@
+use Rattle.std.proofs.Common.{◌≡◌}
+use Rattle.dict_tests.proofs.sharing.worker.Worker.ask.Given as goal
+
+abbrev pub invariant-loop-ask : goal.invariant-loop-ask
+invariant-loop-ask g l = l.self.forest.now ≡ l.initial.self.forest.now
