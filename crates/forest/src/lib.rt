@@ -15,7 +15,6 @@ mod meet;
 mod memory;
 mod open;
 mod pass;
-mod room;
 mod rule;
 mod steps;
 mod straight;

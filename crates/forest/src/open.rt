@@ -16,7 +16,6 @@ use crate::balance::in_trie;
 use crate::blamed::Blamed;
 use crate::forest::Forest;
 use crate::pass::Pass;
-use crate::room::Room;
 use crate::steps::advance;
 use crate::straight::hand::Hand;
 use crate::view::SeatView;
@@ -46,7 +45,6 @@ pub struct OpenCall<K: WordKey, V: WordValue, B: FixedBalance = ByOrder> {
     layout: Layout,
     seat: Seat<u8, SeatView>,
     blamed: Blamed,
-    room: Room,
     /// Which of the pass's calls it is.
     call: u64,
     run: DictRun<K, V>,
@@ -94,7 +92,6 @@ impl<K: WordKey, V: WordValue, B: FixedBalance> Forest<Dict<K, V, B>> {
             share,
             seat,
             blamed,
-            room,
             shape: _,
         } = pass;
         let mut run = DictRun::new(
@@ -111,7 +108,6 @@ impl<K: WordKey, V: WordValue, B: FixedBalance> Forest<Dict<K, V, B>> {
             layout,
             seat,
             blamed,
-            room,
             call,
             run,
             turn,
@@ -173,7 +169,6 @@ impl<K: WordKey, V: WordValue, B: FixedBalance> OpenCall<K, V, B> {
             layout,
             seat,
             mut blamed,
-            room,
             call: _,
             run,
             turn,
@@ -191,7 +186,6 @@ impl<K: WordKey, V: WordValue, B: FixedBalance> OpenCall<K, V, B> {
             share: run.into_share(),
             seat,
             blamed,
-            room,
             shape: PhantomData,
         };
         (pass, reply)
