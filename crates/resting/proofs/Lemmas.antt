@@ -3,6 +3,6 @@
 pub use Rattle.resting.proofs.Rows.{no_row_behind, taken_node_since}
 pub use Rattle.resting.proofs.Resting.{away_more, away_now, rested_away, rested_now, row_keeps}
 pub use Rattle.resting.proofs.Never.{never_more}
-pub use Rattle.resting.proofs.StaysUnborn.{unborn_out}
+pub use Rattle.resting.proofs.StaysUnborn.{unborn_out, unborn_since}
 pub use Rattle.resting.proofs.Unnamed.{unnamed_out}
 pub use Rattle.resting.proofs.Periods.{next_not_out, out_anew, out_since}
