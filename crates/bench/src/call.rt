@@ -7,8 +7,8 @@ use crate::keys::{Draw, Keys};
 use crate::tally::{End, Tally, with_reply};
 use crate::task::Task;
 use crate::work::MapWork;
-use dict::{Dict, FixedBalance};
-use forest::{Forest, OrderFault, Pass, UpdateFault};
+use dict::Dict;
+use forest::{FilledOnce, Forest, OrderFault, Pass, UpdateFault};
 use std::alloc::Global;
 
 /// A dictionary of numbers of one word.
@@ -18,7 +18,7 @@ pub type Numbers<B> = Dict<u64, u64, B>;
 const MOST_PAIRS: usize = 64;
 
 /// All rounds of a thread.
-pub fn rounds<B: FixedBalance>(
+pub fn rounds<B: FilledOnce>(
     alloc: Global,
     forest: &Forest<Numbers<B>>,
     task: Task,
@@ -39,7 +39,7 @@ pub fn rounds<B: FixedBalance>(
 }
 
 /// A round, in which this pair may be put in.
-fn round<B: FixedBalance>(
+fn round<B: FilledOnce>(
     alloc: Global,
     forest: &Forest<Numbers<B>>,
     work: MapWork,
@@ -74,7 +74,7 @@ fn round<B: FixedBalance>(
 }
 
 /// Looks a key up in `looks` of a hundred rounds; else puts it in or takes it out.
-fn mix<B: FixedBalance>(
+fn mix<B: FilledOnce>(
     forest: &Forest<Numbers<B>>,
     pass: &mut Pass<Numbers<B>>,
     draw: Draw,
@@ -95,7 +95,7 @@ fn mix<B: FixedBalance>(
 }
 
 /// Takes the first pair out; a scheduler puts this one in.
-fn pop<B: FixedBalance>(
+fn pop<B: FilledOnce>(
     forest: &Forest<Numbers<B>>,
     work: MapWork,
     pass: &mut Pass<Numbers<B>>,

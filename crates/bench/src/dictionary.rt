@@ -11,8 +11,7 @@ use crate::tally::Tally;
 use crate::task::Task;
 use crate::work::MapWork;
 use arena::Limits;
-use dict::FixedBalance;
-use forest::{Forest, NewFault, Pass};
+use forest::{FilledOnce, Forest, NewFault, Pass};
 use std::alloc::{AllocError, Global};
 use std::rt::Clock;
 use std::thread::{Threads, map_vec};
@@ -21,7 +20,7 @@ use std::thread::{Threads, map_vec};
 pub type Opened<B> = (Forest<Numbers<B>>, Vec<Pass<Numbers<B>>>);
 
 /// Makes a dictionary and fills it, and lets the threads work in it.
-pub fn run<R: Threads + Sync + Clock + AllocGlobal, B: FixedBalance + Send>(
+pub fn run<R: Threads + Sync + Clock + AllocGlobal, B: FilledOnce + Send>(
     rt: &R,
     task: Task,
     work: MapWork,
@@ -36,7 +35,7 @@ pub fn run<R: Threads + Sync + Clock + AllocGlobal, B: FixedBalance + Send>(
 
 /// A dictionary with a pass for each thread, and after these the passes that fill it. Shares are
 /// whole ones.
-fn open<B: FixedBalance>(alloc: Global, task: Task) -> Result<Opened<B>, Fault>
+fn open<B: FilledOnce>(alloc: Global, task: Task) -> Result<Opened<B>, Fault>
     ensures { IfOk result (λ r. All (IsOf r.0) r.1.items) }
 {
     let limits = Limits {
@@ -53,7 +52,7 @@ fn open<B: FixedBalance>(alloc: Global, task: Task) -> Result<Opened<B>, Fault>
 }
 
 /// Puts the pairs of the start into the map, by the last passes, and answers the others.
-fn fill_up<B: FixedBalance>(
+fn fill_up<B: FilledOnce>(
     forest: &Forest<Numbers<B>>,
     task: Task,
     mut passes: Vec<Pass<Numbers<B>>>,
@@ -73,7 +72,7 @@ fn fill_up<B: FixedBalance>(
 }
 
 /// Puts this many fresh keys of the source into the map.
-fn fill<B: FixedBalance>(
+fn fill<B: FilledOnce>(
     forest: &Forest<Numbers<B>>,
     mut pass: Pass<Numbers<B>>,
     mut source: Keys,
@@ -97,7 +96,7 @@ fn fill<B: FixedBalance>(
 }
 
 /// Each pass works in a thread of its own.
-fn crowd<R: Threads + Sync, B: FixedBalance + Send>(
+fn crowd<R: Threads + Sync, B: FilledOnce + Send>(
     rt: &R,
     alloc: Global,
     forest: &Forest<Numbers<B>>,

@@ -12,8 +12,7 @@ use crate::tally::Tally;
 use crate::task::Task;
 use crate::work::MapWork;
 use arena::Limits;
-use dict::FixedBalance;
-use forest::{Forest, PairsFault, Pass};
+use forest::{FilledOnce, Forest, PairsFault, Pass};
 use std::alloc::{AllocError, Global};
 use std::rt::Clock;
 
@@ -29,7 +28,7 @@ const LIMITS: Limits = Limits {
 const LOOKS: u32 = 100;
 
 /// Makes a dictionary of as many pairs as the task has rounds, which is timed, and looks some up.
-pub fn run<R: Clock + AllocGlobal, B: FixedBalance>(
+pub fn run<R: Clock + AllocGlobal, B: FilledOnce>(
     rt: &R,
     task: Task,
 ) -> Result<Repetition, Fault> {
@@ -85,7 +84,7 @@ fn rising(alloc: Global, pairs: u32) -> Result<Vec<(u64, u64)>, AllocError> {
 }
 
 /// A dictionary that begins with these pairs, and its passes.
-fn of_pairs<B: FixedBalance>(alloc: Global, pairs: &[(u64, u64)]) -> Result<Opened<B>, Fault>
+fn of_pairs<B: FilledOnce>(alloc: Global, pairs: &[(u64, u64)]) -> Result<Opened<B>, Fault>
     ensures { IfOk result (λ r. All (IsOf r.0) r.1.items) }
 {
     match Forest::<Numbers<B>>::of_pairs(alloc, LIMITS, pairs) {
@@ -96,7 +95,7 @@ fn of_pairs<B: FixedBalance>(alloc: Global, pairs: &[(u64, u64)]) -> Result<Open
 }
 
 /// Such a dictionary, and its one pass.
-fn begun<B: FixedBalance>(
+fn begun<B: FilledOnce>(
     alloc: Global,
     pairs: &[(u64, u64)],
 ) -> Result<(Forest<Numbers<B>>, Pass<Numbers<B>>), Fault>

@@ -2,12 +2,12 @@
 ghost use Rattle.capi.specs.Left.{IsClosingOf};
 
 use crate::held::Held;
-use regnubas::{FixedBalance, NoMemory};
+use regnubas::{FilledOnce, NoMemory};
 use std::alloc::Global;
 use std::sync::Arc;
 
 /// Ends the forest of a pass, if this is its last client.
-pub(crate) fn close<B: FixedBalance>(
+pub(crate) fn close<B: FilledOnce>(
     held: Held<B>,
     alloc: Global,
 ) -> Result<Option<Vec<(u64, u128)>>, Held<B>>

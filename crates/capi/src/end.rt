@@ -10,7 +10,7 @@ ghost use Rattle.capi.specs.Ends.{AreHeld, AreOfOne, HaveEndedWith, IsEmpty, IsI
 use crate::client::OwnedPass;
 use crate::handle::{Handle, HandleSlot};
 use crate::held::{Held, Numbers};
-use regnubas::{ByBits, ByOrder, FixedBalance, Forest, NoMemory, Pass};
+use regnubas::{ByBits, ByOrder, FilledOnce, Forest, NoMemory, Pass};
 use std::alloc::Global;
 use std::sync::Arc;
 
@@ -227,7 +227,7 @@ fn take_trie(
 }
 
 /// Ends a forest by its passes, if all are there, and answers its pairs.
-fn end_by_all<B: FixedBalance>(
+fn end_by_all<B: FilledOnce>(
     alloc: Global,
     forest: Forest<Numbers<B>>,
     passes: Vec<Pass<Numbers<B>>>,

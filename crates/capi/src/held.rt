@@ -3,7 +3,7 @@ ghost use Rattle.std.specs.Prelude.{◌≡◌};
 ghost use Rattle.std.specs.Arc.{arc_value};
 ghost use Rattle.forest.specs.Passes.{IsOf};
 
-use regnubas::{Dict, FixedBalance, Forest, Pass};
+use regnubas::{Dict, FilledOnce, Forest, Pass};
 use std::sync::Arc;
 
 /// A dictionary from numbers of 64 bits to numbers of 128, a tree or by `B` a trie.
@@ -11,7 +11,7 @@ pub type Numbers<B> = Dict<u64, u128, B>;
 
 /// A pass, and one owner of its forest.
 #[derive(Drop)]
-pub struct Held<B: FixedBalance> {
+pub struct Held<B: FilledOnce> {
     pub(crate) forest: Arc<Forest<Numbers<B>>>,
     pub(crate) pass: Pass<Numbers<B>>,
     /// How many passes the forest has.

@@ -12,7 +12,7 @@ ghost use Rattle.conclusions.specs.Together.{HasReadValue, HasSet, HasSetAt, IsU
 ghost use Rattle.conclusions.specs.Tries.{IsLow};
 
 use regnubas::{
-    Dict, FixedBalance, Forest, Limits, NewFault, PairsFault, Pass, Trie, UpdateFault,
+    Dict, FilledOnce, Forest, Limits, NewFault, PairsFault, Pass, Trie, UpdateFault,
     map_laws_hold, trie_laws_hold, version_laws_hold,
 };
 use std::alloc::Global;
@@ -21,7 +21,7 @@ use std::alloc::Global;
 pub type Numbers<B> = Dict<u64, u64, B>;
 
 /// The only pass of a dictionary sets a key, and finds what it has set.
-pub fn set_then_get<B: FixedBalance>(
+pub fn set_then_get<B: FilledOnce>(
     map: &Forest<Numbers<B>>,
     pass: &mut Pass<Numbers<B>>,
     key: u64,
@@ -41,7 +41,7 @@ pub fn set_then_get<B: FixedBalance>(
 }
 
 /// The only pass of a dictionary that begins with pairs finds the value that a key has among them.
-pub fn begin_then_get<B: FixedBalance>(
+pub fn begin_then_get<B: FilledOnce>(
     alloc: Global,
     limits: Limits,
     pairs: &[(u64, u64)],
@@ -61,7 +61,7 @@ pub fn begin_then_get<B: FixedBalance>(
 /// Of two passes, the only ones, one sets a key, and the other finds the value. They meet before,
 /// so that what the other had done is known to be older; between the two calls, so that the get is
 /// later; and at the end, so that nothing else is known to have happened between.
-pub fn set_for_another<B: FixedBalance>(
+pub fn set_for_another<B: FilledOnce>(
     map: &Forest<Numbers<B>>,
     one: &mut Pass<Numbers<B>>,
     other: &mut Pass<Numbers<B>>,

@@ -17,8 +17,8 @@ mod threads;
 mod worker;
 
 use arena::Limits;
-use dict::{Dict, FixedBalance, WordKey, WordValue};
-use forest::{Closed, Forest, Pass};
+use dict::{Dict, WordKey, WordValue};
+use forest::{Closed, FilledOnce, Forest, Pass};
 use std::alloc::{AllocError, Global};
 use std::test::Fail;
 
@@ -35,7 +35,7 @@ fn limits(passes: u32, nodes: u32, scx: u32) -> Limits {
 }
 
 /// Ends the forest, if all its passes are there.
-fn closed<K: WordKey, V: WordValue, B: FixedBalance>(
+fn closed<K: WordKey, V: WordValue, B: FilledOnce>(
     forest: Forest<Dict<K, V, B>>,
     passes: Vec<Pass<Dict<K, V, B>>>,
 ) -> Option<Closed<Dict<K, V, B>>>
@@ -49,7 +49,7 @@ fn closed<K: WordKey, V: WordValue, B: FixedBalance>(
 }
 
 /// Ends the forest, and answers its pairs, if all its passes are there.
-fn end<K: WordKey, V: WordValue, B: FixedBalance>(
+fn end<K: WordKey, V: WordValue, B: FilledOnce>(
     alloc: Global,
     forest: Forest<Dict<K, V, B>>,
     passes: Vec<Pass<Dict<K, V, B>>>,

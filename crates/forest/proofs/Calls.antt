@@ -9,7 +9,7 @@ use Rattle.prims.specs.Put.Laws.{put_made}
 use Rattle.prims.specs.Shares.{IsUpperEnd}
 use Rattle.prims.proofs.Lemmas.{put_takes, over_begins, over_ends, share_by_others, share_by_step, share_by_put, share_ends, next_idle, next_unwon, put_covers, put_covers_then, put_finished}
 use Rattle.forest.specs.Traces.{Trace, begins, others, makes, goes_on}
-use Rattle.forest.specs.Shares.{IsBetweenCalls}
+use Rattle.forest.specs.Shares.{HasFewNames, IsBetweenCalls}
 use Rattle.forest.proofs.Frames.{CarriesOn, HasOwnWon, goes_from, goes_more}
 
 -- Courses
@@ -101,7 +101,7 @@ module _ (same : PutRun → PutRun → Type 0) (c : Call) (first : PutRun) (left
   put_goes m h (goes_on old is x) = let y = put_goes old h x in (keeps old m is y.0, y.1)
 
 -- once an SCX has answered, its pass is at rest
-pub put_rests : {allows : Layout → History → ℕ → Type 0} (c : Call) (m : PutRun) (h : History) (a : Answer) (left : Remaining) (node scx : ℕ) (snaps : List Snap) → HasHand m node scx snaps → left.next_node ≡ suc node → left.next_scx ≡ suc scx → scx ≢ 0 → PutAnswers m c h a → CarriesOn allows c.layout c.pass c.start h left node scx snaps → IsUpperEnd c.layout c.pass left → IsBetweenCalls c.layout c.pass h left
+pub put_rests : {allows : Layout → History → ℕ → Type 0} (c : Call) (m : PutRun) (h : History) (a : Answer) (left : Remaining) (node scx : ℕ) (snaps : List Snap) → HasHand m node scx snaps → left.next_node ≡ suc node → left.next_scx ≡ suc scx → scx ≢ 0 → PutAnswers m c h a → CarriesOn allows c.layout c.pass c.start h left node scx snaps → (HasFewNames c.layout → IsUpperEnd c.layout c.pass left) → IsBetweenCalls c.layout c.pass h left
 put_rests c m h a left node scx snaps hand next_node next_scx real x y upper = record {
   share = share_ends c.layout h c.pass left node scx next_node next_scx (rw hand.fresh at x.0.taken) (finished_taken c.layout h scx y.sound.lawful real finished) y.share;
   upper = upper;

@@ -33,7 +33,7 @@ use Rattle.forest.specs.declared.pass.Pass.TheInside.{Inside}
 use Rattle.forest.specs.Dictionary.{IsToldOf, IsRefusalOf, HasSpentAtMost, blamed_by_reply}
 use Rattle.forest.specs.StraightCalls.{IsFreshCall, IsSameDictCall, SeatCallBegins}
 use Rattle.forest.specs.Passes.{PassView, HasBlamed, HasGoneOn, run_of, taken_of}
-use Rattle.forest.specs.PassInvariant.{pass_view, IsPass}
+use Rattle.forest.specs.PassInvariant.{pass_view, layout_in, IsPass}
 use Rattle.forest.specs.Shares.{EndsAsDealt, IsBetweenCalls}
 use Rattle.forest.specs.Traces.{CallBegins, HoldsForCall, Trace, known_of, memory_of, seat_steps, planting_of}
 use Rattle.forest.proofs.Blames.{blamed_later, blamed_on_map}
@@ -86,10 +86,10 @@ module _ {K V : Type 0} (valid_key : K → Type 0) (key : K → ℕ) (valid_valu
 
   -- a call that has not begun may begin, with the pass's share
   pub dict_starts : {trie : Bool} {T : Type 0} (p : Inside T) (x : IsPass allows (map_mode trie) p) (m : DictRun K V) → trie_in m.run ≡ trie → IsTypedCall keys values (call_in m.run) → IsUnbegun m.run m.tries (taken_of (pass_view p)) → IsFewCall (call_in m.run) → share_of m.run ≡ p.share → CallBegins allows (DictIsReady keys values) HasDictLeft (call_of p x (taken_of (pass_view p))) p.seat.me.0.passes m
-  dict_starts {trie} p x m tree typed unbegun few share = begun_with p x (taken_of (pass_view p)) (ap share_end share ∙ x.dealt (dict_mode p.layout.mode trie x.is_mode)) (dict_begins keys values m (call_of p x (taken_of (pass_view p))) (x.is_mode ∙ ap map_mode (sym tree)) x.sound typed unbegun few (rw share rests))
+  dict_starts {trie} p x m tree typed unbegun few share = begun_with p x (taken_of (pass_view p)) (ap share_end share ∙ x.dealt (dict_mode (layout_in p).mode trie x.is_mode)) (dict_begins keys values m (call_of p x (taken_of (pass_view p))) (x.is_mode ∙ ap map_mode (sym tree)) x.sound typed unbegun few (rw share rests))
     where
       rests : RestsWith (call_of p x (taken_of (pass_view p))) (call_of p x (taken_of (pass_view p))).start p.share
-      rests = record { share = x.rest.share; over = all_over p.layout _ p.number.0 p.share p.share.next_node p.share.next_scx x.rest.share x.rest.over }
+      rests = record { share = x.rest.share; over = all_over (layout_in p) _ p.number.0 p.share p.share.next_node p.share.next_scx x.rest.share x.rest.over }
 
   -- an ordered read is of a typed call
   pub typed_read : (call : MapCall) → KeepsLists call → IsTypedCall keys values call
@@ -139,11 +139,11 @@ module _ {K V : Type 0} (valid_key : K → Type 0) (key : K → ℕ) (valid_valu
 
     -- it has ended with a share that ends where the pass's did
     module _ (end : share_end (share_of m.run) ≡ share_end p.share) (y : HasEnded allows p s called Answered) where
-      map_run : IsMapRun p.layout (run_of now)
-      map_run = (dict_mode p.layout.mode trie x.is_mode, typed_run (IsWordOf valid_key key) (IsWordOf valid_value value_word) p.layout (run_of now) y.sound)
+      map_run : IsMapRun (layout_in p) (run_of now)
+      map_run = (dict_mode (layout_in p).mode trie x.is_mode, typed_run (IsWordOf valid_key key) (IsWordOf valid_value value_word) (layout_in p) (run_of now) y.sound)
 
-      rest : IsBetweenCalls p.layout p.number.0 (run_of now) (share_of m.run)
-      rest = rests_between (call_of p x called) (run_of now) (share_of m.run) y.answers.rests (end ∙ x.rest.upper)
+      rest : IsBetweenCalls (layout_in p) p.number.0 (run_of now) (share_of m.run)
+      rest = rests_between (call_of p x called) (run_of now) (share_of m.run) y.answers.rests (λ few. end ∙ x.rest.upper few)
 
       -- whom it blames
       pub dict_blames : HasBlamed now
@@ -160,7 +160,7 @@ module _ {K V : Type 0} (valid_key : K → Type 0) (key : K → ℕ) (valid_valu
           go replies.NoMemory z = none
           go (replies.Contended n u) z =
               let way = was_contended (call_of p x called) (run_of now) (call_in m.run) m.tries n.0 u.0 z in
-              blamed_on_map (pass_view p) (pass_view (left_with p x s called Answered (share_of m.run) (u.0 ∷ p.blamed))) n.0 u.0 (dict_mode p.layout.mode trie x.is_mode) refl refl refl y.sound.lawful y.since way.others way.in_the_way way.over_or_new x.blamed
+              blamed_on_map (pass_view p) (pass_view (left_with p x s called Answered (share_of m.run) (u.0 ∷ p.blamed))) n.0 u.0 (dict_mode (layout_in p).mode trie x.is_mode) refl refl refl y.sound.lawful y.since way.others way.in_the_way way.over_or_new x.blamed
 
       -- it is a pass again
       pub dict_pass : EndsAsDealt (share_of m.run) (memory_of s.me.0.passes) → s.me.1 ≡ p.seat.me.1 → IsPass allows (map_mode trie) behind
@@ -172,7 +172,7 @@ module _ {K V : Type 0} (valid_key : K → Type 0) (key : K → ℕ) (valid_valu
 
       -- what it had of its share as the call began
       rests : RestsWith (call_of p x called) (run_of (pass_view p)) p.share
-      rests = record { share = x.rest.share; over = all_over p.layout _ p.number.0 p.share p.share.next_node p.share.next_scx x.rest.share x.rest.over }
+      rests = record { share = x.rest.share; over = all_over (layout_in p) _ p.number.0 p.share p.share.next_node p.share.next_scx x.rest.share x.rest.over }
 
       -- what it has spent
       pub dict_spends : HasSpentAtMost (pass_view p) now (call_in m.run) m.tries
@@ -185,8 +185,8 @@ module _ {K V : Type 0} (valid_key : K → Type 0) (key : K → ℕ) (valid_valu
             nodes = subst (λ (r : Remaining). r.nodes ≤ (share_of m.run).nodes + most_nodes (call_in m.run) * tried) whole z.nodes;
             scx = subst (λ (r : Remaining). r.scx ≤ (share_of m.run).scx + most_scx (call_in m.run) tried) whole z.scx;
             each = subst (λ (r : Remaining). r.nodes + most_nodes (call_in m.run) * (share_of m.run).scx ≤ (share_of m.run).nodes + most_nodes (call_in m.run) * r.scx) whole z.each;
-            gone_nodes = share_nodes p.layout p.number.0 (run_of now) (run_of (pass_view p)) p.share (share_of m.run) y.since end x.rest.share rest.share;
-            gone_scx = share_scx p.layout p.number.0 (run_of now) (run_of (pass_view p)) p.share (share_of m.run) y.since end x.rest.share rest.share;
+            gone_nodes = share_nodes (layout_in p) p.number.0 (run_of now) (run_of (pass_view p)) p.share (share_of m.run) y.since end x.rest.share rest.share;
+            gone_scx = share_scx (layout_in p) p.number.0 (run_of now) (run_of (pass_view p)) p.share (share_of m.run) y.since end x.rest.share rest.share;
             end_nodes = (one_end (share_of m.run) p.share end).0;
             end_scx = (one_end (share_of m.run) p.share end).1;
           }

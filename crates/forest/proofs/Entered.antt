@@ -16,9 +16,9 @@ use Rattle.forest.specs.declared.view.SeatView.{SeatView}
 use Rattle.forest.specs.declared.pass.Pass.TheInside.{Inside}
 use Rattle.forest.specs.TableRule.{history_of}
 use Rattle.forest.specs.Traces.{IsSeated, Trace, HoldsForCall, memory_of, seat_steps, run_at}
-use Rattle.forest.specs.Shares.{EndsAsDealt, IsBetweenCalls, entries_of}
+use Rattle.forest.specs.Shares.{HasFewNames, EndsAsDealt, IsBetweenCalls, entries_of}
 use Rattle.forest.specs.Passes.{AreOfCall, HasBlamed, HasGoneOn, IsLaterView, run_of}
-use Rattle.forest.specs.PassInvariant.{pass_view, IsPass}
+use Rattle.forest.specs.PassInvariant.{pass_view, layout_in, IsPass}
 use Rattle.forest.proofs.Frames.{entry_mine, entry_others}
 use Rattle.forest.proofs.Called.{course_calls, course_since}
 use Rattle.forest.proofs.Passes.{call_of, can_use_later, steps_are}
@@ -80,13 +80,13 @@ one_entered c h l m =
 -- What a call leaves
 
 -- after an answer at which it rests with the upper end of its names, the pass is between two calls
-pub rests_between : (c : Call) (h : History) (left : Remaining) → RestsWith c h left → IsUpperEnd c.layout c.pass left → IsBetweenCalls c.layout c.pass h left
+pub rests_between : (c : Call) (h : History) (left : Remaining) → RestsWith c h left → (HasFewNames c.layout → IsUpperEnd c.layout c.pass left) → IsBetweenCalls c.layout c.pass h left
 rests_between c h left x upper = record { share = x.share; upper = upper; over = over_begins c.layout c.pass left.next_scx h x.over }
 
 -- a call of any machine has ended, and A holds of the run that its pass knows now
 pub record HasEnded (allows : Layout → History → ℕ → Type 0) {T : Type 0} (p : Inside T) (s : Seat ℕ SeatView) (number : ℕ) (A : History → Type 0) : Type 0 where
-  pub seat : IsSeated p.number.0 p.layout s.me.0.passes
-  pub sound : IsRun allows p.layout (run_at s.me.0.passes)
+  pub seat : IsSeated p.number.0 (layout_in p) s.me.0.passes
+  pub sound : IsRun allows (layout_in p) (run_at s.me.0.passes)
   pub since : Extends (run_at s.me.0.passes) (run_at p.seat.me.0.passes)
   pub answers : A (run_at s.me.0.passes)
   pub calls : AreOfCall p.number.0 number (run_at p.seat.me.0.passes) (run_at s.me.0.passes)
@@ -96,7 +96,7 @@ ended {allows} p x s number waits same first m A y =
     let run : history_of y.planting y.known ≡ run_at s.me.0.passes = sym (ap run_at y.is.alone) in
     record {
       seat = call_back s.me.0.passes (call_of p x number) y.planting y.known y.is (course_since (call_of p x number) m _ y.so.1);
-      sound = subst (IsRun allows p.layout) run y.sound;
+      sound = subst (IsRun allows (layout_in p)) run y.sound;
       since = subst (λ h. Extends h (run_at p.seat.me.0.passes)) run (course_since (call_of p x number) m _ y.so.1);
       answers = subst A run y.so.0;
       calls = subst (λ h. AreOfCall p.number.0 number (run_at p.seat.me.0.passes) h) run (course_calls (call_of p x number) m _ y.so.1);
@@ -108,16 +108,16 @@ module _ {allows : Layout → History → ℕ → Type 0} {mode : Mode} {T : Typ
   left_with = record p { share = left; seat = s; blamed = blamed }
 
   -- it is a pass again
-  pub ended_pass : s.me.1 ≡ p.seat.me.1 → HasEnded allows p s number A → IsBetweenCalls p.layout p.number.0 (run_of (pass_view left_with)) left → (IsMap p.layout.mode → EndsAsDealt left (memory_of s.me.0.passes)) → HasBlamed (pass_view left_with) → IsPass allows mode left_with
-  ended_pass bare y rest dealt blames = record { seat = y.seat; bare = bare ∙ x.bare; is_mode = x.is_mode; is_pass = x.is_pass; sound = y.sound; rest = rest; dealt = dealt; blamed = blames }
+  pub ended_pass : s.me.1 ≡ p.seat.me.1 → HasEnded allows p s number A → IsBetweenCalls (layout_in p) p.number.0 (run_of (pass_view left_with)) left → (IsMap (layout_in p).mode → EndsAsDealt left (memory_of s.me.0.passes)) → HasBlamed (pass_view left_with) → IsPass allows mode left_with
+  ended_pass bare y rest dealt blames = record { seat = y.seat; bare = bare ∙ x.bare; is_mode = x.is_mode; is_pass = x.is_pass; first_is = x.first_is; few = x.few; sound = y.sound; rest = rest; dealt = dealt; blamed = blames }
 
   -- and its run is extended
-  pub ended_goes_on : (few most : ℕ) → s.table_id ≡ p.seat.table_id → HasEnded allows p s number A → seat_steps s.me.0.passes ≤ seat_steps p.seat.me.0.passes + few → few ≤ most → IsBetweenCalls p.layout p.number.0 (run_of (pass_view left_with)) left → HasBlamed (pass_view left_with) → HasGoneOn allows (pass_view p) (pass_view left_with) number most blamed
+  pub ended_goes_on : (few most : ℕ) → s.table_id ≡ p.seat.table_id → HasEnded allows p s number A → seat_steps s.me.0.passes ≤ seat_steps p.seat.me.0.passes + few → few ≤ most → IsBetweenCalls (layout_in p) p.number.0 (run_of (pass_view left_with)) left → HasBlamed (pass_view left_with) → HasGoneOn allows (pass_view p) (pass_view left_with) number most blamed
   ended_goes_on few most table y steps small rest blames = record {
     later = later;
     lawful = y.sound;
     calls = y.calls;
-    steps = let a = steps_are p.number.0 p.layout s.me.0.passes y.seat in let b = steps_are p.number.0 p.layout p.seat.me.0.passes x.seat in omega arith;
+    steps = let a = steps_are p.number.0 (layout_in p) s.me.0.passes y.seat in let b = steps_are p.number.0 (layout_in p) p.seat.me.0.passes x.seat in omega arith;
     blamed_these = refl;
     blames = blames;
     rest = rest;

@@ -11,7 +11,7 @@ use Rattle.forest.specs.declared.view.SeatView.{SeatView}
 use Rattle.forest.specs.declared.pass.Pass.TheInside.{Inside}
 use Rattle.forest.specs.Traces.{Trace, HoldsForCall, seat_steps, run_at}
 use Rattle.forest.specs.Passes.{HasGoneOn, HasTakenNothing, HoldsOfOwn, LlxSays, IsFinalizedAnswer, blamed_by, run_of, seen_of}
-use Rattle.forest.specs.PassInvariant.{pass_view, IsPass}
+use Rattle.forest.specs.PassInvariant.{pass_view, layout_in, IsPass}
 use Rattle.forest.specs.StepKinds.{HasFilledNothing}
 use Rattle.forest.specs.StraightLlx.{llx_at, SeatLlxEnds}
 use Rattle.forest.specs.CallSteps.{AnyLeft, no_map_of_cells}
@@ -24,7 +24,7 @@ use Rattle.forest.proofs.Passes.{HasOnlyLoaded, begun_with, called_pass, called_
 -- a run of a cell that has not begun may begin
 pub llx_begins : {allows : Layout → History → ℕ → Type 0} {T : Type 0} (p : Inside T) (x : IsPass allows Records p) (number : ℕ) (m : LlxRun) → m.at ≡ Start → m.node.0 ≤ 8 → HoldsForCall allows (AnyLeft m) p.seat.me.0.passes (call_of p x number) (λ h. ((call_of p x number).start ≡ h) × LlxIsReady allows m (call_of p x number) h None)
 llx_begins {allows} p x number m start small = begun_with p x number {P = λ h. LlxIsReady allows m (call_of p x number) h None} tt
-    (ready_at_start allows m (call_of p x number) _ refl start (cell_opened p.layout _ m.node.0 x.is_mode small) (all_idle p.layout _ p.number.0 p.share _ _ x.sound.lawful x.rest.share x.rest.over))
+    (ready_at_start allows m (call_of p x number) _ refl start (cell_opened (layout_in p) _ m.node.0 x.is_mode small) (all_idle (layout_in p) _ p.number.0 p.share _ _ x.sound.lawful x.rest.share x.rest.over))
 
 -- what its answer says
 abbrev pub Answered : {allows : Layout → History → ℕ → Type 0} {mode : Mode} {T : Type 0} (p : Inside T) → IsPass allows mode p → ℕ → NodeNo → Llx → History → Type 0
@@ -42,9 +42,9 @@ module _ {allows : Layout → History → ℕ → Type 0} {mode : Mode} {T : Typ
 
   pub llx_says : (blamed : List ℕ) (a : Llx) → HasOnlyLoaded allows p s number (Answered p x number node a) → LlxSays (pass_view p) (pass_view (heard blamed)) node.0 a
   llx_says blamed (Snapshot snap) y =
-      let z : IsSnapshot p.layout (run_of (pass_view (seated p s))) node.0 snap = subst (λ (k : NodeNo). IsSnapshot p.layout (run_of (pass_view (seated p s))) k.0 snap) y.answers.1 y.answers.2.0 in
+      let z : IsSnapshot (layout_in p) (run_of (pass_view (seated p s))) node.0 snap = subst (λ (k : NodeNo). IsSnapshot (layout_in p) (run_of (pass_view (seated p s))) k.0 snap) y.answers.1 y.answers.2.0 in
       let looked = subst (λ (k : NodeNo). HasJustLooked p.number.0 (run_of (pass_view (seated p s))) (run_of (pass_view p)) k.0) y.answers.1 y.answers.2.1 in
-      (z, (run_of (pass_view (seated p s)), usable_now p.layout _ node.0 snap z), alone_now p.layout p.number.0 _ node.0 snap (all_idle p.layout _ p.number.0 p.share _ _ y.goes.sound.lawful y.goes.share y.goes.over) z, looked)
+      (z, (run_of (pass_view (seated p s)), usable_now (layout_in p) _ node.0 snap z), alone_now (layout_in p) p.number.0 _ node.0 snap (all_idle (layout_in p) _ p.number.0 p.share _ _ y.goes.sound.lawful y.goes.share y.goes.over) z, looked)
   llx_says blamed (Finalized n u) y = rw y.answers.1 at y.answers.2
   llx_says blamed (Fail n u) y = rw y.answers.1 at y.answers.2
 
@@ -64,7 +64,7 @@ module _ {allows : Layout → History → ℕ → Type 0} {mode : Mode} {T : Typ
       go (Fail n u) z =
           let w = called_pass p x s number _ bare z in
           let more = blamed_more (pass_view p) (pass_view (heard (u.0 ∷ p.blamed))) node.0 u.0 refl refl refl w.sound.lawful z.goes.since (llx_says (u.0 ∷ p.blamed) (Fail n u) z).1 x.blamed in
-          record { seat = w.seat; bare = w.bare; is_mode = w.is_mode; is_pass = w.is_pass; sound = w.sound; rest = w.rest; dealt = w.dealt; blamed = more }
+          record { seat = w.seat; bare = w.bare; is_mode = w.is_mode; is_pass = w.is_pass; first_is = w.first_is; few = w.few; sound = w.sound; rest = w.rest; dealt = w.dealt; blamed = more }
 
   -- its run is extended, and it has taken nothing
   pub llx_goes_on : (a : Llx) (blamed : List ℕ) (left most : ℕ) → blamed ≡ blamed_by a p.blamed → s.table_id ≡ p.seat.table_id → s.me.1 ≡ p.seat.me.1 → HasOnlyLoaded allows p s number (Answered p x number node a) → seat_steps s.me.0.passes ≤ seat_steps p.seat.me.0.passes + left → left ≤ most → HasGoneOn allows (pass_view p) (pass_view (heard blamed)) number most (blamed_by a p.blamed)

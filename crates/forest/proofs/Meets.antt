@@ -11,7 +11,7 @@ use Rattle.forest.specs.declared.pass.Pass.TheInside.{Inside}
 use Rattle.forest.specs.TableRule.{dealt_to, history_of, seated_pass, row, look, Looked, HasLookedBehind, Met, after_look, Behind, plot_of}
 use Rattle.forest.specs.Traces.{known_of, rows_of, planting_of, rest_at, memory_of, run_at}
 use Rattle.forest.specs.Passes.{PassView, HoldsOfOwn, IsLook, HasLookedOnce, HaveLeftShares, IsLaterView, run_of, steps_of}
-use Rattle.forest.specs.PassInvariant.{pass_view, IsPass}
+use Rattle.forest.specs.PassInvariant.{pass_view, layout_in, IsPass}
 use Rattle.forest.proofs.Advances.{keeps_all, rows_by_others, same_knower, seat_back}
 use Rattle.forest.proofs.Calls.{IsQuiet, quiet_start, quiet_other, quiet_step}
 use Rattle.forest.proofs.Blames.{blames_left}
@@ -48,7 +48,7 @@ pub behind_ends : (run : List Row) (p : SeatedPass) → Behind run p → Extends
 behind_ends run p b = subst (λ rows. Extends (history_of p.planting rows) (history_of p.planting p.known)) (sym b.1) (ends_more p.planting b.0 p.known)
 
 -- a pass that has looked at the table after this run
-module _ {T : Type 0} (p : Inside T) (s : Seat ℕ SeatView) (run : List Row) (behind : Behind run (seated_pass p.number.0 p.layout (planting_of p.seat.me.0.passes) (memory_of p.seat.me.0.passes) (known_of p.seat.me.0.passes))) (are : s.me.0.passes ≡ after_look (seated_pass p.number.0 p.layout (planting_of p.seat.me.0.passes) (memory_of p.seat.me.0.passes) (known_of p.seat.me.0.passes)) run ∷ []) where
+module _ {T : Type 0} (p : Inside T) (s : Seat ℕ SeatView) (run : List Row) (behind : Behind run (seated_pass p.number.0 (layout_in p) (planting_of p.seat.me.0.passes) (memory_of p.seat.me.0.passes) (known_of p.seat.me.0.passes))) (are : s.me.0.passes ≡ after_look (seated_pass p.number.0 (layout_in p) (planting_of p.seat.me.0.passes) (memory_of p.seat.me.0.passes) (known_of p.seat.me.0.passes)) run ∷ []) where
   -- what holds of the look holds of each row of the pass after what it knew
   look_own : (P : Row → Type 0) → P (row p.number.0 look (history_of (planting_of p.seat.me.0.passes) run)) → HoldsOfOwn P p.number.0 (run_of (pass_view p)) (run_of (pass_view (seated p s)))
   look_own P holds =
@@ -66,19 +66,19 @@ module _ {T : Type 0} (p : Inside T) (s : Seat ℕ SeatView) (run : List Row) (b
   look_steps = ap (λ l. rows_of p.number.0 (known_of l)) are ∙ rw (eq-eqb p.number.0 p.number.0 refl) (ap suc (ap (rows_of p.number.0) behind.1 ∙ rows_by_others p.number.0 behind.0 _ behind.2))
 
 -- a pass that has looked knows what it knew, and its look
-pub look_called : {allows : Layout → History → ℕ → Type 0} {mode : Mode} {T : Type 0} (p : Inside T) (x : IsPass allows mode p) (s : Seat ℕ SeatView) (run : List Row) → HasLookedBehind allows (seated_pass p.number.0 p.layout (planting_of p.seat.me.0.passes) (memory_of p.seat.me.0.passes) (known_of p.seat.me.0.passes)) run → s.me.0.passes ≡ after_look (seated_pass p.number.0 p.layout (planting_of p.seat.me.0.passes) (memory_of p.seat.me.0.passes) (known_of p.seat.me.0.passes)) run ∷ [] → HasOnlyLoaded allows p s 0 (λ h. Extends h (history_of (planting_of p.seat.me.0.passes) run))
+pub look_called : {allows : Layout → History → ℕ → Type 0} {mode : Mode} {T : Type 0} (p : Inside T) (x : IsPass allows mode p) (s : Seat ℕ SeatView) (run : List Row) → HasLookedBehind allows (seated_pass p.number.0 (layout_in p) (planting_of p.seat.me.0.passes) (memory_of p.seat.me.0.passes) (known_of p.seat.me.0.passes)) run → s.me.0.passes ≡ after_look (seated_pass p.number.0 (layout_in p) (planting_of p.seat.me.0.passes) (memory_of p.seat.me.0.passes) (known_of p.seat.me.0.passes)) run ∷ [] → HasOnlyLoaded allows p s 0 (λ h. Extends h (history_of (planting_of p.seat.me.0.passes) run))
 look_called {allows} p x s run y e =
     let planting = planting_of p.seat.me.0.passes in
     let start = history_of planting (known_of p.seat.me.0.passes) in
     let r : Row = row p.number.0 look (history_of planting run) in
     let now : r ⊳ history_of planting run ≡ run_at s.me.0.passes = sym (ap run_at e) in
     let rows = y.behind.0 in
-    let before : IsRun allows p.layout (history_of planting (rows ++ known_of p.seat.me.0.passes)) = subst (λ l. IsRun allows p.layout (history_of planting l)) y.behind.1 y.before in
-    let quiet = keeps_all allows p.layout p.number.0 (IsQuiet allows p.layout p.number.0 start p.share) planting (λ h r run other z. quiet_other allows p.layout p.number.0 start p.share x.is_pass h r run other z) rows (known_of p.seat.me.0.passes) y.behind.2 before (quiet_start allows p.layout p.number.0 start p.share x.sound x.rest) in
+    let before : IsRun allows (layout_in p) (history_of planting (rows ++ known_of p.seat.me.0.passes)) = subst (λ l. IsRun allows (layout_in p) (history_of planting l)) y.behind.1 y.before in
+    let quiet = keeps_all allows (layout_in p) p.number.0 (IsQuiet allows (layout_in p) p.number.0 start p.share) planting (λ h r run other z. quiet_other allows (layout_in p) p.number.0 start p.share x.is_pass h r run other z) rows (known_of p.seat.me.0.passes) y.behind.2 before (quiet_start allows (layout_in p) p.number.0 start p.share x.sound x.rest) in
     record {
-      seat = seat_back s.me.0.passes p.number.0 p.layout planting (memory_of p.seat.me.0.passes) (r ∷ run) e (inr (ends_trans (history_of planting run) start (rest_at p.seat.me.0.passes) (behind_ends run (seated_pass p.number.0 p.layout planting (memory_of p.seat.me.0.passes) (known_of p.seat.me.0.passes)) y.behind) x.seat.since)) x.seat.there;
+      seat = seat_back s.me.0.passes p.number.0 (layout_in p) planting (memory_of p.seat.me.0.passes) (r ∷ run) e (inr (ends_trans (history_of planting run) start (rest_at p.seat.me.0.passes) (behind_ends run (seated_pass p.number.0 (layout_in p) planting (memory_of p.seat.me.0.passes) (known_of p.seat.me.0.passes)) y.behind) x.seat.since)) x.seat.there;
       answers = subst (λ h. Extends h (history_of planting run)) now (inr (ends_self (history_of planting run)));
-      goes = subst (IsQuiet allows p.layout p.number.0 start p.share) now (quiet_step allows p.layout p.number.0 start p.share (history_of planting run) r y.after (λ k. cc) (subst (λ l. IsQuiet allows p.layout p.number.0 start p.share (history_of planting l)) (sym y.behind.1) quiet));
+      goes = subst (IsQuiet allows (layout_in p) p.number.0 start p.share) now (quiet_step allows (layout_in p) p.number.0 start p.share (history_of planting run) r y.after (λ k. cc) (subst (λ l. IsQuiet allows (layout_in p) p.number.0 start p.share (history_of planting l)) (sym y.behind.1) quiet));
       calls = look_own p s run y.behind e (λ r. r.call ≡ 0) refl;
       dealt = λ map. ap (λ ps. dealt_to (memory_of ps)) e;
     }
@@ -135,10 +135,10 @@ have_met {allows} p q x y s t m = record {
 }
   where
     the_one : SeatedPass
-    the_one = seated_pass p.number.0 p.layout (planting_of p.seat.me.0.passes) (memory_of p.seat.me.0.passes) (known_of p.seat.me.0.passes)
+    the_one = seated_pass p.number.0 (layout_in p) (planting_of p.seat.me.0.passes) (memory_of p.seat.me.0.passes) (known_of p.seat.me.0.passes)
 
     the_other : SeatedPass
-    the_other = seated_pass q.number.0 q.layout (planting_of q.seat.me.0.passes) (memory_of q.seat.me.0.passes) (known_of q.seat.me.0.passes)
+    the_other = seated_pass q.number.0 (layout_in q) (planting_of q.seat.me.0.passes) (memory_of q.seat.me.0.passes) (known_of q.seat.me.0.passes)
 
     one : m.one ≡ the_one
     one = same_knower p.seat.me.0.passes m.one the_one m.was_one x.seat.alone
@@ -165,14 +165,14 @@ have_met {allows} p q x y s t m = record {
     goes_on = subst (λ (k : SeatedPass). Behind m.late (after_look k m.early)) other m.goes_on
 
 -- what either has blamed has left both shares
-pub met_left : {allows : Layout → History → ℕ → Type 0} {mode : Mode} {T : Type 0} (p q : Inside T) (x : IsPass allows mode p) (y : IsPass allows mode q) (s t : Seat ℕ SeatView) → p.layout ≡ q.layout → HaveMet allows p q s t → HaveLeftShares (pass_view (seated p s) ∷ pass_view (seated q t) ∷ [])
+pub met_left : {allows : Layout → History → ℕ → Type 0} {mode : Mode} {T : Type 0} (p q : Inside T) (x : IsPass allows mode p) (y : IsPass allows mode q) (s t : Seat ℕ SeatView) → (layout_in p) ≡ (layout_in q) → HaveMet allows p q s t → HaveLeftShares (pass_view (seated p s) ∷ pass_view (seated q t) ∷ [])
 met_left {allows} {mode} {T} p q x y s t same m = both (λ a. All (λ b. All (λ n. ¬ HasScx b.share n) a.blamed) (d ∷ e ∷ [])) d e
     (both (λ b. All (λ n. ¬ HasScx b.share n) d.blamed) d e
-    (blames_left p.layout _ (pass_view p) d p.number.0 _ _ x.sound.lawful m.one.goes.since m.one.goes.share x.blamed)
-    (blames_left q.layout _ (pass_view p) e q.number.0 _ _ (subst (λ (l : Layout). Lawful l (run_of (pass_view p))) same x.sound.lawful) (ends_trans _ _ _ m.other.answers m.knew) m.other.goes.share x.blamed))
+    (blames_left (layout_in p) _ (pass_view p) d p.number.0 _ _ x.sound.lawful m.one.goes.since m.one.goes.share x.blamed)
+    (blames_left (layout_in q) _ (pass_view p) e q.number.0 _ _ (subst (λ (l : Layout). Lawful l (run_of (pass_view p))) same x.sound.lawful) (ends_trans _ _ _ m.other.answers m.knew) m.other.goes.share x.blamed))
     (both (λ b. All (λ n. ¬ HasScx b.share n) e.blamed) d e
-    (blames_left p.layout _ (pass_view q) d p.number.0 _ _ (subst (λ (l : Layout). Lawful l (run_of (pass_view q))) (sym same) y.sound.lawful) (ends_trans _ _ _ (ends_trans _ _ _ m.one.answers m.goes_on) m.other.goes.since) m.one.goes.share y.blamed)
-    (blames_left q.layout _ (pass_view q) e q.number.0 _ _ y.sound.lawful m.other.goes.since m.other.goes.share y.blamed))
+    (blames_left (layout_in p) _ (pass_view q) d p.number.0 _ _ (subst (λ (l : Layout). Lawful l (run_of (pass_view q))) (sym same) y.sound.lawful) (ends_trans _ _ _ (ends_trans _ _ _ m.one.answers m.goes_on) m.other.goes.since) m.one.goes.share y.blamed)
+    (blames_left (layout_in q) _ (pass_view q) e q.number.0 _ _ y.sound.lawful m.other.goes.since m.other.goes.share y.blamed))
   where
     d : PassView
     d = pass_view (seated p s)

@@ -14,7 +14,7 @@ use Rattle.forest.specs.declared.open.OpenCall.TheInside.{Inside}
 use Rattle.forest.specs.declared.pass.Pass.TheInside as pass
 use Rattle.forest.specs.OpenInvariant.{IsOpen}
 use Rattle.forest.specs.Passes.{PassView, steps_of, taken_of}
-use Rattle.forest.specs.PassInvariant.{IsPass, pass_view}
+use Rattle.forest.specs.PassInvariant.{IsPass, layout_in, pass_view}
 use Rattle.forest.specs.Traces.{known_of, planting_of, seat_steps, shared_nodes, weight}
 use Rattle.forest.proofs.Advances.{since_start}
 use Rattle.forest.proofs.OpenSteps.{DictStands, differ}
@@ -23,19 +23,19 @@ use Rattle.forest.proofs.Passes.{call_of, steps_are}
 module _ {K V B : Type 0} (valid_key : K → Type 0) (key : K → ℕ) (valid_value : V → Type 0) (value : V → ℕ) (trie : Bool) (p : pass.Inside (Dict K V B)) (x : IsPass (TypedAllows (IsWordOf valid_key key) (IsWordOf valid_value value)) (map_mode trie) p) where
   -- a call of this pass, of this number, which began as it was seen then
   abbrev pub opened : DictRun K V → Turn (Reply K V) → ℕ → Snapshot PassView → Inside K V B
-  opened m turn number seen = record { number = p.number; layout = p.layout; seat = p.seat; blamed = p.blamed; call = number; run = m; turn = turn; over = false; began = seen }
+  opened m turn number seen = record { number = p.number; first_scx = p.first_scx; seat = p.seat; blamed = p.blamed; birth = p.birth; call = number; run = m; turn = turn; over = false; began = seen }
 
   -- no step is made yet
   none_made : seat_steps p.seat.me.0.passes ≡ steps_of (pass_view p)
-  none_made = steps_are p.number.0 p.layout p.seat.me.0.passes x.seat
+  none_made = steps_are p.number.0 (layout_in p) p.seat.me.0.passes x.seat
 
-  module _ (first m : DictRun K V) (turn : Turn (Reply K V)) (number : ℕ) (named : number ≡ taken_of (pass_view p)) (had : share_of first.run ≡ p.share) (y : DictStands valid_key key valid_value value (call_of p x (taken_of (pass_view p))) p.seat.me.0.passes first m turn) (few : weight turn (map_left m.run (shared_nodes p.layout)) ≤ most_steps (call_in m.run) m.tries (nodes_by trie (shared_nodes p.layout))) (asks : AsksForPairs (call_in m.run) → MatchTurn turn (λ _. Unit {0}) (λ _. ⊥)) where
+  module _ (first m : DictRun K V) (turn : Turn (Reply K V)) (number : ℕ) (named : number ≡ taken_of (pass_view p)) (had : share_of first.run ≡ p.share) (y : DictStands valid_key key valid_value value (call_of p x (taken_of (pass_view p))) p.seat.me.0.passes first m turn) (few : weight turn (map_left m.run (shared_nodes (layout_in p))) ≤ most_steps (call_in m.run) m.tries (nodes_by trie (shared_nodes (layout_in p)))) (asks : AsksForPairs (call_in m.run) → MatchTurn turn (λ _. Unit {0}) (λ _. ⊥)) where
     as_seen : (seen : Snapshot PassView) → IsOpen valid_key key valid_value value trie (opened m turn number (record seen { value = pass_view p }))
     as_seen seen = record {
-      pass = record { seat = record { alone = refl; since = since_start (planting_of p.seat.me.0.passes) (known_of p.seat.me.0.passes); there = refl }; bare = refl; is_mode = x.is_mode; is_pass = x.is_pass; sound = x.sound; rest = x.rest; dealt = λ map. refl; blamed = x.blamed };
+      pass = record { seat = record { alone = refl; since = since_start (planting_of p.seat.me.0.passes) (known_of p.seat.me.0.passes); there = refl }; bare = refl; is_mode = x.is_mode; is_pass = x.is_pass; first_is = refl; few = x.few; sound = x.sound; rest = x.rest; dealt = λ map. refl; blamed = x.blamed };
       table = refl;
       bare = x.bare;
-      kept = record { number = refl; layout = refl; call = named; blamed = refl };
+      kept = record { number = refl; layout = refl; first = x.first_is; call = named; blamed = refl };
       first = first;
       had = had;
       stands = y;

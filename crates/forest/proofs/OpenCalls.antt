@@ -13,16 +13,13 @@ use Rattle.forest.specs.declared.pass.Pass.TheInside as pass
 use Rattle.forest.specs.Dictionary.{HasCalledIn, blamed_by_reply}
 use Rattle.forest.specs.OpenInvariant.{IsOpen, next_call, pass_as}
 use Rattle.forest.specs.Passes.{Ground, IsOf, steps_of}
-use Rattle.forest.specs.PassInvariant.{IsPass, pass_view}
+use Rattle.forest.specs.PassInvariant.{IsPass, pass_view, layout_in}
 use Rattle.forest.specs.CallSteps.{HasDictLeft}
 use Rattle.forest.specs.Traces.{Stands, seat_steps}
 use Rattle.forest.specs.StraightCalls.{IsSameDictCall, SeatDictEnds}
 use Rattle.forest.proofs.DictCalls.{behind, dict_pass}
 use Rattle.forest.proofs.Passes.{steps_are}
 use Rattle.forest.proofs.WholeCalls.{ended, left_end, says, stays_dealt}
-
-abbrev numbered : ℕ → PassNo
-numbered n = record { 0 = n }
 
 module _ {K V B : Type 0} (valid_key : K → Type 0) (key : K → ℕ) (valid_value : V → Type 0) (value_word : V → ℕ) {trie : Bool} (o : Inside K V B) (x : IsOpen valid_key key valid_value value_word trie o) (reply : Reply K V) (is : o.turn ≡ Done reply) where
   -- the pass as the call began
@@ -35,22 +32,20 @@ module _ {K V B : Type 0} (valid_key : K → Type 0) (key : K → ℕ) (valid_va
   module _ (left : Remaining) (blamed : List ℕ) (gives : left ≡ share_of o.run.run) (blames : blamed ≡ blamed_by_reply reply o.blamed) where
     -- the pass that is given back
     abbrev pub back : pass.Inside (Dict K V B)
-    back = record { number = o.number; layout = o.layout; share = left; seat = o.seat; blamed = blamed; shape = record {} }
+    back = record { number = o.number; first_scx = o.first_scx; share = left; seat = o.seat; blamed = blamed; birth = o.birth; shape = record {} }
 
-    number_is : o.number ≡ record { 0 = o.began.value.number }
-    number_is = ap numbered x.kept.number
-
-    back_is : back ≡ behind valid_key key valid_value value_word trie was x.pass o.seat o.run reply
-    back_is = rw (number_is, x.kept.layout, gives, blames, x.kept.blamed) refl
+    -- what contracts see of it
+    back_is : pass_view back ≡ pass_view (behind valid_key key valid_value value_word trie was x.pass o.seat o.run reply)
+    back_is = rw (x.kept.number, x.kept.layout, gives, blames, x.kept.blamed) refl
 
     pub open_pass : IsPass (TypedAllows (IsWordOf valid_key key) (IsWordOf valid_value value_word)) (map_mode trie) back
-    open_pass = subst (λ p. IsPass (TypedAllows (IsWordOf valid_key key) (IsWordOf valid_value value_word)) (map_mode trie) p) (sym back_is) (dict_pass valid_key key valid_value value_word trie was x.pass o.seat o.run reply (left_end valid_key key valid_value value_word trie was x.pass o.seat x.first o.run reply ends x.had) (ended valid_key key valid_value value_word trie was x.pass o.seat x.first o.run reply ends) (stays_dealt valid_key key valid_value value_word trie was x.pass o.seat x.first o.run reply ends) x.bare)
+    open_pass = rw (x.kept.number, x.kept.layout, x.kept.first, gives, blames, x.kept.blamed) (dict_pass valid_key key valid_value value_word trie was x.pass o.seat o.run reply (left_end valid_key key valid_value value_word trie was x.pass o.seat x.first o.run reply ends x.had) (ended valid_key key valid_value value_word trie was x.pass o.seat x.first o.run reply ends) (stays_dealt valid_key key valid_value value_word trie was x.pass o.seat x.first o.run reply ends) x.bare)
 
     -- it has made the steps that were counted
     pub open_made : steps_of (pass_view back) ≡ steps_of o.began.value + (seat_steps o.seat.me.0.passes - steps_of o.began.value)
-    open_made = let e = steps_are o.number.0 o.layout o.seat.me.0.passes open_pass.seat in let z = x.since in omega (arith, e, z)
+    open_made = let e = steps_are o.number.0 (layout_in back) o.seat.me.0.passes open_pass.seat in let z = x.since in omega (arith, e, z)
 
     -- and it says what a whole call says
     pub open_called : (f : Ground) → IsOf f o.began.value → o.run.tries ≡ f.tries → HasCalledIn trie valid_key key valid_value value_word f o.began.value (pass_view back) (call_in o.run.run) reply
-    open_called f of tries = subst (λ p. HasCalledIn trie valid_key key valid_value value_word f o.began.value (pass_view p) (call_in o.run.run) reply) (sym back_is)
-        (says valid_key key valid_value value_word trie was x.pass o.seat x.first o.run reply ends x.had f of (call_in o.run.run) refl tries x.table (let z = rw (x.kept.layout, of.1, tries) at x.steps in omega (arith, z)) x.nothing)
+    open_called f of tries = subst (λ v. HasCalledIn trie valid_key key valid_value value_word f o.began.value v (call_in o.run.run) reply) (sym back_is)
+        (says valid_key key valid_value value_word trie was x.pass o.seat x.first o.run reply ends x.had f of (call_in o.run.run) refl tries x.table (let z = rw (of.1, tries) at x.steps in omega (arith, z)) x.nothing)

@@ -54,13 +54,13 @@ module _ {K V : Type 0} (valid_key : K → Type 0) (key : K → ℕ) (valid_valu
     open_asks = waits_asks valid_key key valid_value value o.run (next_call o.began.value x.pass.is_pass) (history_of open_waits.planting open_waits.known) step open_waits.so.0
 
     -- the call, of its own machine, in a table whose names have this layout
-    abbrev pub open_host : (lay : Layout) → o.layout ≡ lay → Host (dict_calls valid_key key valid_value value lay o.call) (own_call (dict_calls valid_key key valid_value value lay o.call) (DictAnswers valid_key key valid_value value))
-    open_host lay of_table = own (dict_calls valid_key key valid_value value lay o.call) (DictAnswers valid_key key valid_value value) (next_call o.began.value x.pass.is_pass) (sym x.kept.layout ∙ of_table) (sym x.kept.call) x.first
+    abbrev pub open_host : (lay : Layout) → o.began.value.layout ≡ lay → Host (dict_calls valid_key key valid_value value lay o.call) (own_call (dict_calls valid_key key valid_value value lay o.call) (DictAnswers valid_key key valid_value value))
+    open_host lay of_table = own (dict_calls valid_key key valid_value value lay o.call) (DictAnswers valid_key key valid_value value) (next_call o.began.value x.pass.is_pass) of_table (sym x.kept.call) x.first
 
-    module _ (lay : Layout) (of_table : o.layout ≡ lay) (s : Seat ℕ SeatView) (m : DictRun K V) (turn : Turn (Reply K V)) (table : s.table_id ≡ o.seat.table_id) (bare : s.me.1 ≡ o.seat.me.1) (one : seat_steps s.me.0.passes ≡ suc (seat_steps o.seat.me.0.passes))
+    module _ (lay : Layout) (of_table : o.began.value.layout ≡ lay) (s : Seat ℕ SeatView) (m : DictRun K V) (turn : Turn (Reply K V)) (table : s.table_id ≡ o.seat.table_id) (bare : s.me.1 ≡ o.seat.me.1) (one : seat_steps s.me.0.passes ≡ suc (seat_steps o.seat.me.0.passes))
         (stands : (k : Host (dict_calls valid_key key valid_value value lay o.call) (own_call (dict_calls valid_key key valid_value value lay o.call) (DictAnswers valid_key key valid_value value))) → HostedWaits k o.seat.me.0.passes o.run step → HostedStands k s.me.0.passes m turn) where
       stood : DictStands (next_call o.began.value x.pass.is_pass) s.me.0.passes x.first m turn
-      stood = own_stands (dict_calls valid_key key valid_value value lay o.call) (DictAnswers valid_key key valid_value value) (next_call o.began.value x.pass.is_pass) (sym x.kept.layout ∙ of_table) (sym x.kept.call) x.first s.me.0.passes m turn (stands (open_host lay of_table) open_waits)
+      stood = own_stands (dict_calls valid_key key valid_value value lay o.call) (DictAnswers valid_key key valid_value value) (next_call o.began.value x.pass.is_pass) of_table (sym x.kept.call) x.first s.me.0.passes m turn (stands (open_host lay of_table) open_waits)
 
       -- it is of the same call as before
       pub same_call : IsSameCall valid_key key valid_value value o.run m
@@ -75,16 +75,16 @@ module _ {K V : Type 0} (valid_key : K → Type 0) (key : K → ℕ) (valid_valu
           on (Done a) z = rw z.is.alone z.sound
 
       module _ (nearer : MatchTurn turn (λ _. map_left m.run (shared_nodes lay) < map_left o.run.run (shared_nodes lay)) (λ _. Unit {0})) where
-        few : seat_steps s.me.0.passes + weight turn (map_left m.run (shared_nodes o.layout)) ≤ steps_of o.began.value + most_steps (call_in o.run.run) o.run.tries (nodes_by trie (shared_nodes o.layout))
+        few : seat_steps s.me.0.passes + weight turn (map_left m.run (shared_nodes o.began.value.layout)) ≤ steps_of o.began.value + most_steps (call_in o.run.run) o.run.tries (nodes_by trie (shared_nodes o.began.value.layout))
         few =
-            let w = weighs turn (map_left m.run (shared_nodes o.layout)) (map_left o.run.run (shared_nodes o.layout)) (rw of_table nearer) in
+            let w = weighs turn (map_left m.run (shared_nodes o.began.value.layout)) (map_left o.run.run (shared_nodes o.began.value.layout)) (rw of_table nearer) in
             let z = rw is at x.steps in
             omega (arith, one, w, z)
 
         -- it stays a call that is held open
         pub stays_open : (over : Bool) → (over ≡ true → MatchTurn turn (λ _. ⊥) (λ _. Unit {0})) → (over ≡ false → MatchTurn turn (λ _. Unit {0}) (λ _. ⊥)) → IsOpen valid_key key valid_value value trie (record o { seat = s; run = m; turn = turn; over = over })
         stays_open over ends goes = record {
-          pass = record { seat = x.pass.seat; bare = refl; is_mode = x.pass.is_mode; is_pass = x.pass.is_pass; sound = x.pass.sound; rest = x.pass.rest; dealt = x.pass.dealt; blamed = x.pass.blamed };
+          pass = record { seat = x.pass.seat; bare = refl; is_mode = x.pass.is_mode; is_pass = x.pass.is_pass; first_is = x.pass.first_is; few = x.pass.few; sound = x.pass.sound; rest = x.pass.rest; dealt = x.pass.dealt; blamed = x.pass.blamed };
           table = table ∙ x.table;
           bare = bare ∙ x.bare;
           kept = x.kept;

@@ -12,9 +12,9 @@ use Rattle.forest.specs.declared.view.SeatView.{SeatView}
 use Rattle.forest.specs.declared.pass.Pass.TheInside.{Inside}
 use Rattle.forest.specs.TableRule.{dealt_to, history_of}
 use Rattle.forest.specs.Traces.{IsSeated, Trace, HoldsForCall, known_of, planting_of, memory_of, run_at, rows_of, seat_steps}
-use Rattle.forest.specs.Shares.{IsBetweenCalls}
+use Rattle.forest.specs.Shares.{HasFewNames, IsBetweenCalls}
 use Rattle.forest.specs.Passes.{PassView, Ground, IsOf, AreOfCall, CanUse, HasGoneOn, HasTakenNothing, IsLaterView, run_of}
-use Rattle.forest.specs.PassInvariant.{pass_view, IsPass}
+use Rattle.forest.specs.PassInvariant.{pass_view, layout_in, IsPass}
 use Rattle.prims.proofs.Lemmas.{upper_end, whole_untouched, none_taken, next_unwon, usable_since}
 use Rattle.forest.proofs.Frames.{CarriesOn}
 use Rattle.forest.proofs.Calls.{quiet_goes}
@@ -28,11 +28,11 @@ begins_lawful lay = (refl, omega arith)
 
 -- a pass with its whole share is at rest at the start
 pub begins_at_rest : (lay : Layout) (o : Opening) (c : ℕ) → Lawful lay (Opened o) → IsBetweenCalls lay c (Opened o) (whole_share lay c)
-begins_at_rest lay o c lawful = record { share = whole_untouched lay o c lawful; upper = refl; over = λ s own d t. absurd (none_taken o s t) }
+begins_at_rest lay o c lawful = record { share = whole_untouched lay o c lawful; upper = λ few. refl; over = λ s own d t. absurd (none_taken o s t) }
 
--- what is gone of its share is what it has taken
-pub taken_is : (lay : Layout) (c : ℕ) (h : History) (left : Remaining) → IsBetweenCalls lay c h left → lay.scx - left.scx ≡ left.next_scx - first_scx lay c
-taken_is lay c h left x = let a = x.share.from_scx in let b = (upper_end lay c left x.upper).1 in omega (arith, a, b)
+-- what is gone of its share is what it has taken, in a table in which no name comes back
+pub taken_is : (lay : Layout) (c : ℕ) (h : History) (left : Remaining) → HasFewNames lay → IsBetweenCalls lay c h left → lay.scx - left.scx ≡ left.next_scx - first_scx lay c
+taken_is lay c h left few x = let a = x.share.from_scx in let b = (upper_end lay c left (x.upper few)).1 in omega (arith, a, b)
 
 pub begins_sound : (allows : Layout → History → ℕ → Type 0) (lay : Layout) → IsRun allows lay (Start lay.mode)
 unfolding Shaped
@@ -44,7 +44,7 @@ layout_of e q of = ap (λ (s : PassView). s.layout) e ∙ of.1 ∙ sym (ap (λ (
 
 -- the call of a pass
 abbrev pub call_of : {allows : Layout → History → ℕ → Type 0} {mode : Mode} {T : Type 0} (p : Inside T) → IsPass allows mode p → ℕ → Call
-call_of p x number = record { layout = p.layout; pass = p.number.0; is_pass = x.is_pass; number = number; start = run_at p.seat.me.0.passes }
+call_of p x number = record { layout = (layout_in p); pass = p.number.0; is_pass = x.is_pass; number = number; start = run_at p.seat.me.0.passes }
 
 -- a call of it begins where P holds of what it knows, and what the call is to have is dealt
 pub begun_with : {allows : Layout → History → ℕ → Type 0} {mode : Mode} {T : Type 0} (p : Inside T) (x : IsPass allows mode p) (number : ℕ) {P : History → Type 0} {left : PassMemory → Type 0} → left (memory_of p.seat.me.0.passes) → P (run_at p.seat.me.0.passes) → HoldsForCall allows left p.seat.me.0.passes (call_of p x number) (λ h. ((call_of p x number).start ≡ h) × P h)
@@ -56,34 +56,34 @@ seated p s = record p { seat = s }
 
 -- what the pass has after a call that takes nothing
 pub record HasOnlyLoaded (allows : Layout → History → ℕ → Type 0) {T : Type 0} (p : Inside T) (s : Seat ℕ SeatView) (number : ℕ) (A : History → Type 0) : Type 0 where
-  pub seat : IsSeated p.number.0 p.layout s.me.0.passes
+  pub seat : IsSeated p.number.0 (layout_in p) s.me.0.passes
   pub answers : A (run_at s.me.0.passes)
-  pub goes : CarriesOn allows p.layout p.number.0 (run_at p.seat.me.0.passes) (run_at s.me.0.passes) p.share p.share.next_node p.share.next_scx []
+  pub goes : CarriesOn allows (layout_in p) p.number.0 (run_at p.seat.me.0.passes) (run_at s.me.0.passes) p.share p.share.next_node p.share.next_scx []
   pub calls : AreOfCall p.number.0 number (run_at p.seat.me.0.passes) (run_at s.me.0.passes)
   -- in a map as much is dealt as was
-  pub dealt : IsMap p.layout.mode → dealt_to (memory_of s.me.0.passes) ≡ dealt_to (memory_of p.seat.me.0.passes)
+  pub dealt : IsMap (layout_in p).mode → dealt_to (memory_of s.me.0.passes) ≡ dealt_to (memory_of p.seat.me.0.passes)
 
 -- so it is after a call in a table that holds no map
-pub called : {allows : Layout → History → ℕ → Type 0} {mode : Mode} {T : Type 0} (p : Inside T) (x : IsPass allows mode p) (s : Seat ℕ SeatView) (number : ℕ) {M : Type 0} (waits : M → Call → History → Step → Type 0) (same : M → M → Type 0) (first m : M) (A : History → Type 0) {left : PassMemory → Type 0} → (IsMap p.layout.mode → ⊥) → ((m : M) (h : History) (t : Step) → waits m (call_of p x number) h t → t.kind ≢ Fill) → HoldsForCall allows left s.me.0.passes (call_of p x number) (λ h. A h × Trace allows waits same (call_of p x number) first m h) → HasOnlyLoaded allows p s number A
+pub called : {allows : Layout → History → ℕ → Type 0} {mode : Mode} {T : Type 0} (p : Inside T) (x : IsPass allows mode p) (s : Seat ℕ SeatView) (number : ℕ) {M : Type 0} (waits : M → Call → History → Step → Type 0) (same : M → M → Type 0) (first m : M) (A : History → Type 0) {left : PassMemory → Type 0} → (IsMap (layout_in p).mode → ⊥) → ((m : M) (h : History) (t : Step) → waits m (call_of p x number) h t → t.kind ≢ Fill) → HoldsForCall allows left s.me.0.passes (call_of p x number) (λ h. A h × Trace allows waits same (call_of p x number) first m h) → HasOnlyLoaded allows p s number A
 called {allows} p x s number waits same first m A none fills_not y =
     let run : history_of y.planting y.known ≡ run_at s.me.0.passes = sym (ap run_at y.is.alone) in
     record {
       seat = call_back s.me.0.passes (call_of p x number) y.planting y.known y.is (course_since (call_of p x number) m _ y.so.1);
       answers = subst A run y.so.0;
-      goes = subst (λ h. CarriesOn allows p.layout p.number.0 (run_at p.seat.me.0.passes) h p.share p.share.next_node p.share.next_scx []) run (quiet_goes waits same (call_of p x number) first p.share fills_not x.sound x.rest m _ y.so.1);
+      goes = subst (λ h. CarriesOn allows (layout_in p) p.number.0 (run_at p.seat.me.0.passes) h p.share p.share.next_node p.share.next_scx []) run (quiet_goes waits same (call_of p x number) first p.share fills_not x.sound x.rest m _ y.so.1);
       calls = subst (λ h. AreOfCall p.number.0 number (run_at p.seat.me.0.passes) h) run (course_calls (call_of p x number) m _ y.so.1);
       dealt = λ map. absurd (none map);
     }
 
 -- it is a pass again
 pub called_pass : {allows : Layout → History → ℕ → Type 0} {mode : Mode} {T : Type 0} (p : Inside T) (x : IsPass allows mode p) (s : Seat ℕ SeatView) (number : ℕ) (A : History → Type 0) → s.me.1 ≡ p.seat.me.1 → HasOnlyLoaded allows p s number A → IsPass allows mode (seated p s)
-called_pass p x s number A bare y = record { seat = y.seat; bare = bare ∙ x.bare; is_mode = x.is_mode; is_pass = x.is_pass; sound = y.goes.sound; rest = record { share = y.goes.share; upper = x.rest.upper; over = y.goes.over }; dealt = λ map. x.dealt map ∙ sym (y.dealt map); blamed = blamed_later (pass_view p) (pass_view (seated p s)) refl refl refl y.goes.sound.lawful y.goes.since x.blamed }
+called_pass p x s number A bare y = record { seat = y.seat; bare = bare ∙ x.bare; is_mode = x.is_mode; is_pass = x.is_pass; first_is = x.first_is; few = x.few; sound = y.goes.sound; rest = record { share = y.goes.share; upper = x.rest.upper; over = y.goes.over }; dealt = λ map. x.dealt map ∙ sym (y.dealt map); blamed = blamed_later (pass_view p) (pass_view (seated p s)) refl refl refl y.goes.sound.lawful y.goes.since x.blamed }
 
 -- it has taken nothing
 pub called_nothing : {allows : Layout → History → ℕ → Type 0} {T : Type 0} (p : Inside T) (s : Seat ℕ SeatView) (number : ℕ) (A : History → Type 0) → HasOnlyLoaded allows p s number A → HasTakenNothing (pass_view p) (pass_view (seated p s))
 called_nothing p s number A y = record {
   share = refl;
-  done = y.goes.unwon (λ w. next_unwon p.layout _ p.number.0 p.share _ _ y.goes.sound.lawful y.goes.share w.0 w.1);
+  done = y.goes.unwon (λ w. next_unwon (layout_in p) _ p.number.0 p.share _ _ y.goes.sound.lawful y.goes.share w.0 w.1);
   alone = λ snap u. y.goes.alone snap (λ z. let i = z.within in omega arith) u;
 }
 
@@ -116,7 +116,7 @@ called_goes_on p x s number A left most table bare y few small = record {
   later = later;
   lawful = y.goes.sound;
   calls = y.calls;
-  steps = let a = steps_are p.number.0 p.layout s.me.0.passes y.seat in let b = steps_are p.number.0 p.layout p.seat.me.0.passes x.seat in omega arith;
+  steps = let a = steps_are p.number.0 (layout_in p) s.me.0.passes y.seat in let b = steps_are p.number.0 (layout_in p) p.seat.me.0.passes x.seat in omega arith;
   blamed_these = refl;
   blames = (called_pass p x s number A bare y).blamed;
   rest = (called_pass p x s number A bare y).rest;

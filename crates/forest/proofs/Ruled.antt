@@ -3,12 +3,14 @@ use Rattle.std.proofs.Common.{◌≡◌, ◌<◌, ◌≤◌, ℕ, List, [], ◌�
 use Rattle.std.proofs.Math.Nat.{lt_of_lt_of_le}
 use Rattle.atomic_table.specs.Table.{Me, Allows, Joins, Splits, State}
 use Rattle.arena.specs.Layout.{IsMap}
+use Rattle.arena.proofs.Lemmas.{place_inside, places_apart}
 use Rattle.histories.specs.Common.{Layout, Mode, Word, History, IsTold, place, table_size, word_after}
 use Rattle.planting.specs.Plantings.{PlantingView}
 use Rattle.forest.specs.LastingRule.{MayStepOn}
 use Rattle.forest.specs.Ruled.{IsRuled, MayLast, first_by, first_of_table, ruled_by}
 use Rattle.forest.specs.Slotted.{in_turns, plot_at, slots_by, slots_of_table}
-use Rattle.forest.specs.TableRule.{IsPlaceOf, Made, MayStep, TableIsLawful, first_of_seat, joined_seat, new_passes, rest_of_seat, seat_view}
+use Rattle.forest.specs.TablePlans.{IsPlaceOf}
+use Rattle.forest.specs.TableRule.{Made, MayStep, TableIsLawful, first_of_seat, joined_seat, new_passes, rest_of_seat, seat_view}
 use Rattle.forest.specs.declared.rule.CallStep.{CallStep}
 use Rattle.forest.specs.declared.rule.Plot.{Plot}
 use Rattle.forest.specs.declared.rule.Site.{Site}
@@ -62,19 +64,6 @@ module _ (allows : Layout → History → ℕ → Type 0) (site : Site) where
   unfolding with_turns
   first_once once = subst (λ (t : Option Turns). first_by t (with_turns t) ≡ seat_view (new_passes plain_plot 0 site.layout.passes)) (sym once) refl
 
--- the layout of the table, by which its words lie
-pub table_is : (lay : Layout) (t : Option Turns) → (slots_by lay t).table ≡ lay
-table_is lay None = refl
-table_is lay (Some t) = refl
-
--- of a table whose records have places of their own nothing is asked
-pub never_lasts : (mode : Mode) (allows : Layout → History → ℕ → Type 0) (site : Site) → site.turns ≡ None → MayLast mode allows site
-never_lasts mode allows site once t e = absurd (let y : Some t ≡ None = sym e ∙ once in cc)
-
--- a place is within the table
-pub inside_room : (site : Site) (word : Word) (at words : ℕ) → IsPlaceOf (slots_of_table site) word at → table_size site.layout ≤ words → at < words
-inside_room site word at words there few = lt_of_lt_of_le (subst (λ l. at < table_size l) (table_is site.layout site.turns) there.inside) few
-
 -- the one pass of a seat is the one pass
 first_or : SeatedPass → List SeatedPass → SeatedPass
 first_or q [] = q
@@ -85,13 +74,13 @@ unfolding first_or
 same_pass ps p q one other = ap (first_or p) (sym other ∙ one)
 
 -- a step of the one pass of a seat, of a word that is there
-module _ (allows : Layout → History → ℕ → Type 0) (mode : Mode) (slots id : ℕ) (me : Me ℕ SeatView) (said : CallStep) (at : ℕ) (f told : ℕ → ℕ) (after : (n : ℕ) → f n ≡ word_after said.step.access n) (tells : (n : ℕ) → IsTold said.step.access n (told n)) (p : SeatedPass) (one : me.0.passes ≡ p ∷ []) (may : MayStep allows said p) where
+module _ (allows : Layout → History → ℕ → Type 0) (mode : Mode) (slots id : ℕ) (me : Me ℕ SeatView) (said : CallStep) (at words : ℕ) (f told : ℕ → ℕ) (after : (n : ℕ) → f n ≡ word_after said.step.access n) (tells : (n : ℕ) → IsTold said.step.access n (told n)) (p : SeatedPass) (one : me.0.passes ≡ p ∷ []) (may : MayStep allows said p) where
   abbrev pub Moves : Site → Type 0
   Moves site = Allows (IsRuled allows site) slots id me at f (λ n w. Made allows said me.0.passes (told n) w.0.passes × (w.1 ≡ me.1))
 
-  moves_in : (t : Option Turns) (lay : Layout) (planting : PlantingView) → (let site : Site = record { layout = lay; planting = planting; turns = t } in MayLast mode allows site → IsPlaceOf (slots_of_table site) said.step.word at → (IsMap mode → MayStepOn allows said p) → Moves site)
-  moves_in None lay planting last there on = moves allows record { layout = lay; planting = planting } slots id me said at f told there.is_word (there.is_place ∙ ap (place lay) (slot_in_place lay said.step.word there.is_word)) there.inside (λ w i e. there.apart w i e ∙ slot_in_place lay said.step.word there.is_word) after tells p one may
+  moves_in : (t : Option Turns) (lay : Layout) (planting : PlantingView) → (let site : Site = record { layout = lay; planting = planting; turns = t } in MayLast mode allows site → IsPlaceOf site words said.step.word at → (IsMap mode → MayStepOn allows said p) → Moves site)
+  moves_in None lay planting last there on = let at_place : at ≡ place lay said.step.word = there.is_place ∙ ap (place lay) (slot_in_place lay said.step.word there.is_word) in moves allows record { layout = lay; planting = planting } slots id me said at f told there.is_word at_place (rw at_place (place_inside lay said.step.word there.is_word)) (λ w i e. places_apart lay said.step.word w there.is_word i (e ∙ at_place)) after tells p one may
   moves_in (Some t) lay planting last there on = let so = last t refl in lasting_moves allows (in_turns lay t) planting so.2 so.1 slots id me said at f told there.is_place after tells p one (on so.0)
 
-  pub ruled_moves : (site : Site) → MayLast mode allows site → IsPlaceOf (slots_of_table site) said.step.word at → (IsMap mode → MayStepOn allows said p) → Moves site
+  pub ruled_moves : (site : Site) → MayLast mode allows site → IsPlaceOf site words said.step.word at → (IsMap mode → MayStepOn allows said p) → Moves site
   ruled_moves site = moves_in site.turns site.layout site.planting

@@ -19,10 +19,10 @@ use Rattle.forest.specs.declared.pass.Pass.TheInside.{Inside}
 use Rattle.forest.specs.CallSteps.{AnyLeft, no_map_of_cells}
 use Rattle.forest.specs.TableRule.{history_of}
 use Rattle.forest.specs.Traces.{IsSeated, Trace, HoldsForCall, seat_steps, run_at}
-use Rattle.forest.specs.Shares.{IsBetweenCalls, entries_of}
+use Rattle.forest.specs.Shares.{HasFewNames, IsBetweenCalls, entries_of}
 use Rattle.forest.specs.Puts.{IsPutOver}
 use Rattle.forest.specs.Passes.{PassView, AreOfCall, HasGoneOn, IsAllTaken, IsLaterView, CanUse, HasLeftAlone, Each, ScxSays, done_of, run_of, taken_of}
-use Rattle.forest.specs.PassInvariant.{pass_view, IsPass}
+use Rattle.forest.specs.PassInvariant.{pass_view, layout_in, IsPass}
 use Rattle.forest.proofs.Frames.{CarriesOn}
 use Rattle.forest.proofs.Calls.{HasHand, course_keeps, put_goes, put_rests}
 use Rattle.forest.proofs.Called.{course_calls, course_since}
@@ -94,9 +94,9 @@ put_same old now snaps finalize field v node scx number s x = record {
 }
 
 -- where none of its names is left, all of them are taken
-pub all_taken : (p : PassView) (what : Resource) (k : ℕ) → IsBetweenCalls p.layout p.number (run_of p) p.share → IsFullOf p.share what k → IsAllTaken p what
-all_taken p Nodes k x full = λ n own. x.share.taken_nodes n own (let e = (upper_end p.layout p.number p.share x.upper).0 in let z = full.0 in let b = own.below in omega (arith, e, z, b))
-all_taken p ScxRecords k x full = λ s own. x.share.taken_scx s own (let e = (upper_end p.layout p.number p.share x.upper).1 in let z = full.1 in let b = own.below in omega (arith, e, z, b))
+pub all_taken : (p : PassView) (what : Resource) (k : ℕ) → HasFewNames p.layout → IsBetweenCalls p.layout p.number (run_of p) p.share → IsFullOf p.share what k → IsAllTaken p what
+all_taken p Nodes k few x full = λ n own. x.share.taken_nodes n own (let e = (upper_end p.layout p.number p.share (x.upper few)).0 in let z = full.0 in let b = own.below in omega (arith, e, z, b))
+all_taken p ScxRecords k few x full = λ s own. x.share.taken_scx s own (let e = (upper_end p.layout p.number p.share (x.upper few)).1 in let z = full.1 in let b = own.below in omega (arith, e, z, b))
 
 -- it has the next records of the pass's share, and the snapshots, in hand
 put_hand : (m : PutRun) (snaps : List Snap) (finalize : List NodeNo) (field : ℕ × Side) (v node scx number : ℕ) → IsPutOver m snaps finalize field v node scx number → HasHand m node scx snaps
@@ -110,29 +110,29 @@ module _ {T : Type 0} (p : Inside T) (x : IsPass AllowsAll Records p) (some_node
   abbrev start : History
   start = run_at p.seat.me.0.passes
 
-  own_node : IsOwnNode p.layout p.number.0 p.share.next_node
-  own_node = left_own_node p.layout start p.number.0 p.share _ _ p.share.next_node x.rest.share record { from = omega arith; below = omega arith }
+  own_node : IsOwnNode (layout_in p) p.number.0 p.share.next_node
+  own_node = left_own_node (layout_in p) start p.number.0 p.share _ _ p.share.next_node x.rest.share record { from = omega arith; below = omega arith }
 
-  own_scx : IsOwnScx p.layout p.number.0 p.share.next_scx
-  own_scx = left_own_scx p.layout start p.number.0 p.share _ _ p.share.next_scx x.rest.share record { from = omega arith; below = omega arith }
+  own_scx : IsOwnScx (layout_in p) p.number.0 p.share.next_scx
+  own_scx = left_own_scx (layout_in p) start p.number.0 p.share _ _ p.share.next_scx x.rest.share record { from = omega arith; below = omega arith }
 
   free : ¬ IsTakenScx start p.share.next_scx
-  free = next_free p.layout start p.number.0 p.share _ _ x.rest.share own_scx
+  free = next_free (layout_in p) start p.number.0 p.share _ _ x.rest.share own_scx
 
   pub put_begins : (m : PutRun) → Is m → m.at ≡ PutStart → m.scx.at ≡ ScxStart → Each (CanUse (pass_view p)) snaps → HoldsForCall AllowsAll (AnyLeft m) p.seat.me.0.passes (call_of p x number) (λ h. ((call_of p x number).start ≡ h) × PutIsReady AllowsAll m (call_of p x number) h None)
-  put_begins m of at scx_at usable = begun_with p x number tt (put_ready_first p.layout p.number.0 number x.is_pass start m x.sound.lawful of.over (rw of.snaps_are (each_at (CanUse (pass_view p)) snaps usable)) at
+  put_begins m of at scx_at usable = begun_with p x number tt (put_ready_first (layout_in p) p.number.0 number x.is_pass start m x.sound.lawful of.over (rw of.snaps_are (each_at (CanUse (pass_view p)) snaps usable)) at
       scx_at (rw of.record_is own_scx) (rw of.record_is x.rest.share.taken_scx) (rw of.record_is free) (rw of.fresh own_node) (rw of.fresh x.rest.share.taken_nodes)
       (rw of.fresh (x.rest.share.unmentioned p.share.next_node own_node (omega arith)))
       (rw of.fresh (x.rest.share.untaken_nodes p.share.next_node own_node (omega arith)))
-      (all_over p.layout start p.number.0 p.share _ _ x.rest.share x.rest.over))
+      (all_over (layout_in p) start p.number.0 p.share _ _ x.rest.share x.rest.over))
 
   -- what the pass has after the call
   pub record HasPut (s : Seat ℕ SeatView) (a : Scx) : Type 0 where
-    pub seat : IsSeated p.number.0 p.layout s.me.0.passes
+    pub seat : IsSeated p.number.0 (layout_in p) s.me.0.passes
     pub run : PutRun
     pub is_of : Is run
     pub answers : PutAnswers run (call_of p x number) (run_at s.me.0.passes) a
-    pub goes : CarriesOn AllowsAll p.layout p.number.0 start (run_at s.me.0.passes) (after_taking p.share) p.share.next_node p.share.next_scx snaps
+    pub goes : CarriesOn AllowsAll (layout_in p) p.number.0 start (run_at s.me.0.passes) (after_taking p.share) p.share.next_node p.share.next_scx snaps
     pub calls : AreOfCall p.number.0 number start (run_at s.me.0.passes)
 
   abbrev pub Same : PutRun → PutRun → Type 0
@@ -146,11 +146,11 @@ module _ {T : Type 0} (p : Inside T) (x : IsPass AllowsAll Records p) (some_node
         run = m;
         is_of = course_keeps Is of (λ old now e q. put_same old now snaps finalize field v p.share.next_node p.share.next_scx number e q) m _ y.so.1;
         answers = subst (λ h. PutAnswers m (call_of p x number) h a) now y.so.0;
-        goes = subst (λ h. CarriesOn AllowsAll p.layout p.number.0 start h (after_taking p.share) p.share.next_node p.share.next_scx snaps) now
+        goes = subst (λ h. CarriesOn AllowsAll (layout_in p) p.number.0 start h (after_taking p.share) p.share.next_node p.share.next_scx snaps) now
             (put_goes Same (call_of p x number) first (after_taking p.share) p.share.next_node p.share.next_scx snaps (put_hand first snaps finalize field v p.share.next_node p.share.next_scx number of)
             (λ old now e q. record { fresh = rw e.1 q.fresh; record_is = rw e.0 q.record_is; snaps_are = rw e.1 q.snaps_are })
-            (omega arith) (omega arith) x.sound (taken_share p.layout start p.number.0 p.share some_node some_scx x.rest.share) x.rest.over
-            (λ w. next_unwon p.layout start p.number.0 p.share _ _ x.sound.lawful x.rest.share own_scx w.1) m _ y.so.1).1;
+            (omega arith) (omega arith) x.sound (taken_share (layout_in p) start p.number.0 p.share some_node some_scx x.rest.share) x.rest.over
+            (λ w. next_unwon (layout_in p) start p.number.0 p.share _ _ x.sound.lawful x.rest.share own_scx w.1) m _ y.so.1).1;
         calls = subst (λ h. AreOfCall p.number.0 number start h) now (course_calls (call_of p x number) m _ y.so.1);
       }
 
@@ -164,8 +164,10 @@ module _ {T : Type 0} (p : Inside T) (x : IsPass AllowsAll Records p) (some_node
     bare = bare ∙ x.bare;
     is_mode = x.is_mode;
     is_pass = x.is_pass;
+    first_is = x.first_is;
+    few = x.few;
     sound = y.goes.sound;
-    rest = put_rests (call_of p x number) y.run _ a (after_taking p.share) p.share.next_node p.share.next_scx snaps (put_hand y.run snaps finalize field v p.share.next_node p.share.next_scx number y.is_of) (omega arith) (omega arith) (λ e. let q = own_scx.from in omega arith) y.answers y.goes (same_end p.share some_node some_scx ∙ x.rest.upper);
+    rest = put_rests (call_of p x number) y.run _ a (after_taking p.share) p.share.next_node p.share.next_scx snaps (put_hand y.run snaps finalize field v p.share.next_node p.share.next_scx number y.is_of) (omega arith) (omega arith) (λ e. let q = own_scx.from in omega arith) y.answers y.goes (λ few. same_end p.share some_node some_scx ∙ x.rest.upper few);
     dealt = λ map. absurd (no_map_of_cells (subst IsMap x.is_mode map));
     blamed = blamed_later (pass_view p) (pass_view (spent s)) refl refl refl y.goes.sound.lawful y.goes.since x.blamed;
   }
@@ -191,7 +193,7 @@ module _ {T : Type 0} (p : Inside T) (x : IsPass AllowsAll Records p) (some_node
       fresh = y.is_of.fresh;
       has_value = y.answers.1.value ∙ y.is_of.is_value;
       empty_fields = y.answers.1.empty;
-      found = subst (λ l. (i : ℕ) → i < length l → IsAsFound p.layout h d.entry.before (snap_at l i)) y.is_of.snaps_are at.found;
+      found = subst (λ l. (i : ℕ) → i < length l → IsAsFound (layout_in p) h d.entry.before (snap_at l i)) y.is_of.snaps_are at.found;
     },
   )
     where
@@ -214,11 +216,11 @@ module _ {T : Type 0} (p : Inside T) (x : IsPass AllowsAll Records p) (some_node
       z = y.goes.won (own_scx, subst (λ k. HasWon h k) y.is_of.record_is d.won)
 
       same : z.0 ≡ e
-      same = once_same z.0 e (log p.layout h) (once p.layout h y.goes.sound.lawful) (z.1 ∙ sym y.is_of.record_is) (in_entries p.number.0 z.0 (log p.layout h) (done_of (pass_view p)) z.2)
-          (in_since p.layout h (d.entry.row ⊳ d.entry.before) e y.goes.sound.lawful at.within (subst (λ l. IsIn e l) (sym at.logged) (newest _)))
+      same = once_same z.0 e (log (layout_in p) h) (once (layout_in p) h y.goes.sound.lawful) (z.1 ∙ sym y.is_of.record_is) (in_entries p.number.0 z.0 (log (layout_in p) h) (done_of (pass_view p)) z.2)
+          (in_since (layout_in p) h (d.entry.row ⊳ d.entry.before) e y.goes.sound.lawful at.within (subst (λ l. IsIn e l) (sym at.logged) (newest _)))
   put_says s (Lost n u) is y = (
-    subst (λ l. HasChanged p.layout p.number.0 Freeze h start l n.0 u.0) y.is_of.snaps_are y.answers.1.changed,
-    y.goes.unwon (λ w. aborted_never_won p.layout h y.run.scx.scx.0 y.goes.sound.lawful y.answers.1.aborted (rw y.is_of.record_is w.1)),
+    subst (λ l. HasChanged (layout_in p) p.number.0 Freeze h start l n.0 u.0) y.is_of.snaps_are y.answers.1.changed,
+    y.goes.unwon (λ w. aborted_never_won (layout_in p) h y.run.scx.scx.0 y.goes.sound.lawful y.answers.1.aborted (rw y.is_of.record_is w.1)),
     subst (λ (k : ℕ). value h (state k) ≡ 2) y.is_of.record_is y.answers.1.aborted,
   )
     where
@@ -235,7 +237,7 @@ module _ {T : Type 0} (p : Inside T) (x : IsPass AllowsAll Records p) (some_node
     later = later;
     lawful = y.goes.sound;
     calls = y.calls;
-    steps = let a = steps_are p.number.0 p.layout s.me.0.passes y.seat in let b = steps_are p.number.0 p.layout p.seat.me.0.passes x.seat in omega arith;
+    steps = let a = steps_are p.number.0 (layout_in p) s.me.0.passes y.seat in let b = steps_are p.number.0 (layout_in p) p.seat.me.0.passes x.seat in omega arith;
     blamed_these = refl;
     blames = (put_pass s a bare y).blamed;
     rest = (put_pass s a bare y).rest;

@@ -1,56 +1,108 @@
--- Where words are in a table: where each record has a place of its own, where the layout says.
-use Rattle.std.proofs.Common.{◌≡◌, ◌<◌, ◌*◌, ◌∙◌, ℕ, None, ap, sym, subst}
+-- Where words are in a table: where each record has a place of its own, where the layout says; and
+-- where records come back, where the low bits of its name say.
+use Rattle.std.proofs.Common.{◌≡◌, ◌<◌, ◌+◌, ◌%◌, ◌*◌, ◌^◌, ◌∙◌, ℕ, Bool, true, false, Option, Some, None, ap, arith, bit_and, refl, sym}
 use Rattle.std.proofs.Math.Nat.{mod-eq_of_lt, mul-zero, zero-mod}
-use Rattle.arena.specs.Layout.{node_start, scx_start, start_of}
+use Rattle.std.proofs.lemmas.Nat.{and_mask}
+use Rattle.atomic_table.specs.Seated.{TableId}
+use Rattle.arena.specs.Layout.{scx_start}
 use Rattle.arena.specs.Opening.{node_size}
-use Rattle.histories.specs.Common.{Layout, NodeNo, ScxNo, Word, Node, Scx, IsWord, all_nodes, all_scx, node, scx, place, table_size}
-use Rattle.slots.specs.Lasting.{Lasting, slot_word}
+use Rattle.arena.specs.Words.{IsPart, offset}
+use Rattle.arena.specs.declared.word.ScxWord.TheVariants.{State}
+use Rattle.histories.specs.Common.{Layout, Mode, NodeNo, ScxNo, Word, Node, Scx, Settled, Head, IsWord, all_nodes, all_scx, node, scx}
+use Rattle.slots.specs.Lasting.{Lasting, slot_word, table_place}
 use Rattle.forest.specs.Slotted.{in_place, names_of_table, node_begins, scx_begins, slots_by, slots_of_table, word_begins}
-use Rattle.forest.specs.TableRule.{IsPlaceOf}
+use Rattle.forest.specs.TablePlans.{HasMasks, IsTableOf}
 use Rattle.forest.specs.declared.rule.Site.{Site}
+use Rattle.forest.specs.declared.rule.Turns.{Turns}
+use Rattle.forest.specs.declared.table_plan.TablePlan.{TablePlan}
 
-pub node_in_place : (lay : Layout) (n : NodeNo) → n.0 < all_nodes lay → node_begins (in_place lay) n ≡ node_start lay n
-node_in_place lay n less = ap (λ k. node_start lay record { 0 = k }) (mod-eq_of_lt less)
-
-pub scx_in_place : (lay : Layout) (s : ScxNo) → s.0 < all_scx lay → scx_begins (in_place lay) s ≡ scx_start lay s
-scx_in_place lay s less = ap (λ k. scx_start lay record { 0 = k }) (mod-eq_of_lt less)
-
-pub word_in_place : (lay : Layout) (w : Word) → IsWord lay w → word_begins (in_place lay) w ≡ start_of lay w
-word_in_place lay (Node n part) i = node_in_place lay n i
-word_in_place lay (Scx s part) i = scx_in_place lay s i.0
-
--- and its place in its slot is that of the layout
+-- where each record has a place of its own, a word's place in its slot is that of the layout
 pub slot_in_place : (lay : Layout) (w : Word) → IsWord lay w → slot_word (in_place lay) w ≡ w
 slot_in_place lay (Node n part) i = ap (λ k. node k part) (mod-eq_of_lt i)
 slot_in_place lay (Scx s part) i = ap (λ k. scx k part) (mod-eq_of_lt i.0)
 
-pub place_in_place : (lay : Layout) (w : Word) (at : ℕ) → IsWord lay w → at ≡ place lay w → at < table_size lay → ((other : Word) → IsWord lay other → place lay other ≡ at → other ≡ w) → IsPlaceOf (in_place lay) w at
-place_in_place lay w at i is inside apart = record {
-  is_word = i;
-  is_place = is ∙ ap (place lay) (sym (slot_in_place lay w i));
-  inside = inside;
-  apart = λ other j q. apart other j q ∙ sym (slot_in_place lay w i);
-}
+-- the names of a table of this layout in which none comes back
+pub names_are : (site : Site) (lay : Layout) → site.layout ≡ lay → site.turns ≡ None → names_of_table site ≡ lay
+names_are site lay same once = ap (λ t. (slots_by site.layout t).lay) once ∙ same
 
--- so it is of a table of this layout
-module _ (site : Site) (lay : Layout) (same : site.layout ≡ lay) (once : site.turns ≡ None) where
-  pub slots_are : slots_of_table site ≡ in_place lay
-  slots_are = ap (slots_by site.layout) once ∙ ap in_place same
+-- the layout of the table, by which its words lie; it has the passes of that of its names
+pub table_is : (lay : Layout) (t : Option Turns) → (slots_by lay t).table ≡ lay
+table_is lay None = refl
+table_is lay (Some t) = refl
 
-  pub names_are : names_of_table site ≡ lay
-  names_are = ap (λ (t : Lasting). t.lay) slots_are
+passes_by : (lay : Layout) (t : Option Turns) → (slots_by lay t).lay.passes ≡ lay.passes
+passes_by lay None = refl
+passes_by lay (Some t) = refl
 
-  pub node_of_table : (n : NodeNo) → n.0 < all_nodes (names_of_table site) → node_start lay n ≡ node_begins (slots_of_table site) n
-  node_of_table n = subst (λ (t : Lasting). n.0 < all_nodes t.lay → node_start lay n ≡ node_begins t n) (sym slots_are) (λ less. sym (node_in_place lay n less))
+pub passes_are : (site : Site) → (names_of_table site).passes ≡ site.layout.passes
+passes_are site = passes_by site.layout site.turns
 
-  pub scx_of_table : (s : ScxNo) → s.0 < all_scx (names_of_table site) → scx_start lay s ≡ scx_begins (slots_of_table site) s
-  scx_of_table s = subst (λ (t : Lasting). s.0 < all_scx t.lay → scx_start lay s ≡ scx_begins t s) (sym slots_are) (λ less. sym (scx_in_place lay s less))
+-- the slot of a node, and of an SCX-record: where records come back, the low bits of its name say
+node_by : (lasts : Bool) (lay : Layout) (t : Option Turns) (plan : TablePlan) → HasMasks lasts t plan → (n : ℕ) → n < all_nodes (slots_by lay t).lay → (lasts ≡ true → bit_and n plan.node_mask ≡ n % (slots_by lay t).node_turn) × (lasts ≡ false → n ≡ n % (slots_by lay t).node_turn)
+node_by false lay None plan e n less = (λ q. cc, λ q. sym (mod-eq_of_lt less))
+node_by true lay (Some t) plan masks n less = (λ q. ap (bit_and n) masks.0 ∙ and_mask n t.node_bits, λ q. cc)
+node_by false lay (Some t) plan e n less = absurd (let y : Some t ≡ None = e in cc)
+node_by true lay None plan masks n less = absurd masks
 
-  pub word_of_table : (w : Word) → IsWord (names_of_table site) w → start_of lay w ≡ word_begins (slots_of_table site) w
-  word_of_table w = subst (λ (t : Lasting). IsWord t.lay w → start_of lay w ≡ word_begins t w) (sym slots_are) (λ i. sym (word_in_place lay w i))
+scx_by : (lasts : Bool) (lay : Layout) (t : Option Turns) (plan : TablePlan) → HasMasks lasts t plan → (s : ℕ) → s < all_scx (slots_by lay t).lay → (lasts ≡ true → bit_and s plan.scx_mask ≡ s % (slots_by lay t).scx_turn) × (lasts ≡ false → s ≡ s % (slots_by lay t).scx_turn)
+scx_by false lay None plan e s less = (λ q. cc, λ q. sym (mod-eq_of_lt less))
+scx_by true lay (Some t) plan masks s less = (λ q. ap (bit_and s) masks.1 ∙ and_mask s t.scx_bits, λ q. cc)
+scx_by false lay (Some t) plan e s less = absurd (let y : Some t ≡ None = e in cc)
+scx_by true lay None plan masks s less = absurd masks
 
-  pub place_of_table : (w : Word) (at : ℕ) → IsWord (names_of_table site) w → at ≡ place lay w → at < table_size lay → ((other : Word) → IsWord lay other → place lay other ≡ at → other ≡ w) → IsPlaceOf (slots_of_table site) w at
-  place_of_table w at i is inside apart = subst (λ (t : Lasting). IsPlaceOf t w at) (sym slots_are) (place_in_place lay w at (subst (λ l. IsWord l w) names_are i) is inside apart)
+-- so it is of a table
+module _ {mode : Mode} {lasts : Bool} {id : TableId} {site : Site} {plan : TablePlan} (x : IsTableOf mode lasts id site plan) where
+  table_laid : (slots_of_table site).table ≡ plan.layout
+  table_laid = table_is site.layout site.turns ∙ x.layout
+
+  -- where its words begin is a number that a sum with a place does not overflow
+  module _ (n : NodeNo) (less : n.0 < all_nodes (names_of_table site)) where
+    pub node_masked : lasts ≡ true → bit_and n.0 plan.node_mask ≡ n.0 % (slots_of_table site).node_turn
+    node_masked = (node_by lasts site.layout site.turns plan x.masks n.0 less).0
+
+    pub node_unmasked : lasts ≡ false → n.0 ≡ n.0 % (slots_of_table site).node_turn
+    node_unmasked = (node_by lasts site.layout site.turns plan x.masks n.0 less).1
+
+    pub node_begins_at : (size slot : ℕ) → size ≡ node_size plan.layout.mode → slot ≡ n.0 % (slots_of_table site).node_turn → size * slot ≡ node_begins (slots_of_table site) n
+    node_begins_at size slot sized is = rw (sized, is, table_laid) refl
+
+    pub node_begins_low : node_begins (slots_of_table site) n < 2 ^ 40
+    node_begins_low = let i = x.inside (Node n (Settled Head)) less in let few = x.few in omega (arith, i, few)
+
+  module _ (s : ScxNo) (less : s.0 < all_scx (names_of_table site)) where
+    pub scx_masked : lasts ≡ true → bit_and s.0 plan.scx_mask ≡ s.0 % (slots_of_table site).scx_turn
+    scx_masked = (scx_by lasts site.layout site.turns plan x.masks s.0 less).0
+
+    pub scx_unmasked : lasts ≡ false → s.0 ≡ s.0 % (slots_of_table site).scx_turn
+    scx_unmasked = (scx_by lasts site.layout site.turns plan x.masks s.0 less).1
+
+    pub scx_begins_at : (base slot : ℕ) → base ≡ scx_start plan.layout record { 0 = 0 } → slot ≡ s.0 % (slots_of_table site).scx_turn → base + 14 * slot ≡ scx_begins (slots_of_table site) s
+    scx_begins_at base slot based is = rw (based, is, table_laid) (omega arith)
+
+    pub scx_begins_low : scx_begins (slots_of_table site) s < 2 ^ 40
+    scx_begins_low = let i = x.inside (Scx s State) (less, tt) in let few = x.few in omega (arith, i, few)
+
+  pub begins_low : (w : Word) → IsWord (names_of_table site) w → word_begins (slots_of_table site) w < 2 ^ 40
+  begins_low (Node n part) i = node_begins_low n i
+  begins_low (Scx s part) i = scx_begins_low s i.0
+
+-- no record comes back where none is said to
+once_in : (lasts : Bool) (t : Option Turns) (plan : TablePlan) → HasMasks lasts t plan → lasts ≡ false → t ≡ None
+once_in false t plan e once = e
+once_in true t plan masks once = cc
+
+pub once_by : {mode : Mode} {lasts : Bool} {id : TableId} {site : Site} {plan : TablePlan} → IsTableOf mode lasts id site plan → lasts ≡ false → site.turns ≡ None
+once_by {lasts = lasts} {site = site} {plan = plan} x = once_in lasts site.turns plan x.masks
+
+-- a word is where its record begins, and its offset further
+pub place_from_start : (t : Lasting) (w : Word) → word_begins t w + offset w ≡ table_place t w
+place_from_start t (Node n part) = refl
+place_from_start t (Scx s part) = refl
+
+-- and nodes or SCX-records have such a word
+pub word_part : (lay : Layout) (w : Word) → IsWord lay w → IsPart w
+word_part lay (Node n part) i = tt
+word_part lay (Scx s part) i = i.1
 
 -- the root is where a table begins, in whatever slots
 pub root_begins : (t : Lasting) → 0 ≡ node_begins t record { 0 = 0 }

@@ -24,7 +24,7 @@ use Rattle.forest.specs.declared.pass.Pass.TheInside.{Inside}
 use Rattle.forest.specs.declared.view.SeatView.{SeatView}
 use Rattle.forest.specs.Dictionary.{IsRefusalOf, blamed_by_reply}
 use Rattle.forest.specs.Passes.{HoldsOfOwn, PassView, run_of, taken_of}
-use Rattle.forest.specs.PassInvariant.{IsPass, pass_view}
+use Rattle.forest.specs.PassInvariant.{IsPass, pass_view, layout_in}
 use Rattle.forest.specs.StepKinds.{HasKeptToKinds}
 use Rattle.forest.specs.StraightCalls.{IsSameDictCall}
 use Rattle.forest.specs.declared.memory.PassMemory.{PassMemory}
@@ -90,13 +90,13 @@ module _ {K V : Type 0} (valid_key : K → Type 0) (key : K → ℕ) (valid_valu
 
     -- a pass of this layout and number
     abbrev seen : TableId → Remaining → PlantingView → List Row → List ℕ → PassView
-    seen table share planting known blamed = record { table = table; layout = p.layout; planting = planting; number = p.number.0; share = share; known = known; blamed = blamed }
+    seen table share planting known blamed = record { table = table; layout = layout_in p; planting = planting; number = p.number.0; share = share; known = known; blamed = blamed }
 
     -- a call after which its pass knows what it knew before has left the pass as it was
     pub dict_nothing : share_end (share_of m.run) ≡ share_end p.share → HasEnded allows p s (taken_of (pass_view p)) Ended → s.table_id ≡ p.seat.table_id → KnowsAs s.me.0.passes (planting_of p.seat.me.0.passes) (known_of p.seat.me.0.passes) → now ≡ pass_view p
     dict_nothing end y table known =
         let run : run_of now ≡ run_of (pass_view p) = ap (λ (b : PlantingView). history_of b (known_of s.me.0.passes)) known.0 ∙ ap (history_of (planting_of p.seat.me.0.passes)) known.1 in
-        let rests : RestsWith call (run_of (pass_view p)) p.share = record { share = x.rest.share; over = all_over p.layout _ p.number.0 p.share p.share.next_node p.share.next_scx x.rest.share x.rest.over } in
+        let rests : RestsWith call (run_of (pass_view p)) p.share = record { share = x.rest.share; over = all_over (layout_in p) _ p.number.0 p.share p.share.next_node p.share.next_scx x.rest.share x.rest.over } in
         let share : share_of m.run ≡ p.share = one_share call (run_of now) (share_of m.run) p.share end y.answers.rests (subst (λ h. RestsWith call h p.share) (sym run) rests) in
         let blamed : blamed_by_reply reply p.blamed ≡ p.blamed = blames_none (pass_view p) now m.tries (call_in m.run) reply p.blamed run (dict_refuses valid_key key valid_value value_word trie p x s m reply end y) in
         ap (λ t. seen t (share_of m.run) (planting_of s.me.0.passes) (known_of s.me.0.passes) (blamed_by_reply reply p.blamed)) table

@@ -29,7 +29,7 @@ use Rattle.forest.specs.declared.pass.Pass.TheInside.{Inside}
 use Rattle.forest.specs.declared.view.SeatedPass.{SeatedPass}
 use Rattle.forest.specs.declared.view.SeatView.{SeatView}
 use Rattle.forest.specs.Passes.{taken_of}
-use Rattle.forest.specs.PassInvariant.{pass_view, IsPass}
+use Rattle.forest.specs.PassInvariant.{pass_view, layout_in, IsPass}
 use Rattle.forest.specs.StraightCalls.{IsSameDictCall}
 use Rattle.forest.specs.StraightGet.{getting}
 use Rattle.forest.specs.StraightWalk.{Walker, WalkerWaits, WalkerFinds, WalksFromRoot}
@@ -80,7 +80,7 @@ module _ {K V : Type 0} (valid_key : K → Type 0) (key : K → ℕ) (valid_valu
     }
 
   -- its machine waits for the head of the root
-  pub get_walks : (trie : Bool) {T : Type 0} (p : Inside T) (x : IsPass allows (map_mode trie) p) (tries wanted number : ℕ) (way : Way) (layout : Layout) (is_layout : p.layout ≡ layout) (is_number : taken_of (pass_view p) ≡ number) → way ≡ leaf_way trie → wanted < 2 ^ 64
+  pub get_walks : (trie : Bool) {T : Type 0} (p : Inside T) (x : IsPass allows (map_mode trie) p) (tries wanted number : ℕ) (way : Way) (layout : Layout) (is_layout : (layout_in p) ≡ layout) (is_number : taken_of (pass_view p) ≡ number) → way ≡ leaf_way trie → wanted < 2 ^ 64
       → WalkerWaits (walker p.share tries wanted way (call_of p x (taken_of (pass_view p))) layout number is_layout is_number) p.seat.me.0.passes (way_from way (ToKey wanted)) no_turns (load LoadSettled (node 0 (Settled Head)))
   unfolding walker
   get_walks trie p x tries wanted number way layout is_layout is_number is_way small =
@@ -114,10 +114,10 @@ module _ {K V : Type 0} (valid_key : K → Type 0) (key : K → ℕ) (valid_valu
           (get_ends tries c h wanted x.last share f (rw x.is_goal at t.small) r.1.1.1 r.1.0.spent found r.1.1.0.2) record { valid = valid; says = λ typed. same_told f.value v same_word typed; form = inl refl }
 
   -- and so it has ended, where a walk that waits for the head of the root finds that
-  pub get_over : (trie : Bool) {T : Type 0} (p : Inside T) (x : IsPass allows (map_mode trie) p) (s : Seat ℕ SeatView) (tries wanted number : ℕ) (way : Way) (layout : Layout) → p.layout ≡ layout → taken_of (pass_view p) ≡ number → way ≡ leaf_way trie → wanted < 2 ^ 64 → (turn : LastTurns) (f : Found) (v : Option V) → IfSome v valid_value → (IfSome f.value (IsWordOf valid_value value_word) → option_map value_word v ≡ f.value)
+  pub get_over : (trie : Bool) {T : Type 0} (p : Inside T) (x : IsPass allows (map_mode trie) p) (s : Seat ℕ SeatView) (tries wanted number : ℕ) (way : Way) (layout : Layout) → (layout_in p) ≡ layout → taken_of (pass_view p) ≡ number → way ≡ leaf_way trie → wanted < 2 ^ 64 → (turn : LastTurns) (f : Found) (v : Option V) → IfSome v valid_value → (IfSome f.value (IsWordOf valid_value value_word) → option_map value_word v ≡ f.value)
       → ((w : Walker (dict_calls valid_key key valid_value value_word layout number)) → WalksFromRoot w p.seat.me.0.passes way (ToKey wanted) → WalkerFinds w s.me.0.passes way (ToKey wanted) turn f)
       → (last : WalkRun) × HoldsForCall allows (HasDictLeft {K = K} {V = V} (getting p.share tries wanted (way_at way (ToKey wanted) root_trail Start))) s.me.0.passes (call_of p x (taken_of (pass_view p))) (λ h. Answered valid_key key valid_value value_word trie p x s (getting p.share tries wanted last) (replies.Value v) h × Trace allows waits same (call_of p x (taken_of (pass_view p))) (getting p.share tries wanted (way_at way (ToKey wanted) root_trail Start)) (getting p.share tries wanted last) h)
   get_over trie p x s tries wanted number way layout is_layout is_number is_way small turn f v valid same_word finds =
       let c : Call = call_of p x (taken_of (pass_view p)) in
       let found = finds (walker p.share tries wanted way c layout number is_layout is_number) (get_walks trie p x tries wanted number way layout is_layout is_number is_way small) in
-      (found.last, get_ended p.share tries wanted number way layout c is_layout is_number s.me.0.passes turn f v (dict_mode p.layout.mode trie x.is_mode) valid same_word found)
+      (found.last, get_ended p.share tries wanted number way layout c is_layout is_number s.me.0.passes turn f v (dict_mode (layout_in p).mode trie x.is_mode) valid same_word found)

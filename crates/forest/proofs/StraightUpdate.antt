@@ -54,8 +54,8 @@ update_is u snaps plan old fresh is_snaps is_plan is_old is_fresh i = record { s
 
 module _ {M E : Type 0} {o : Calls M} {e : EditMeaning E} (u : Updater o e) where
   -- a call is made by one of the passes
-  pub has_passes : (lay : Layout) → o.layout ≡ lay → 0 < lay.passes
-  has_passes lay e = subst (λ (l : Layout). 0 < l.passes) (u.is_layout ∙ e) (let i = u.call.is_pass in omega (arith, i))
+  pub has_passes : (n : ℕ) → o.layout.passes ≡ n → 0 < n
+  has_passes n e = subst (λ k. 0 < k) (ap (λ (l : Layout). l.passes) u.is_layout ∙ e) (let i = u.call.is_pass in omega (arith, i))
 
   -- what it has continued with does not depend on the place of the update
   gone_anywhere : {A B : Type 0} (old : UpdateRun E UpdateAt) (m : UpdateRun E A) (at : B) (left : ℕ) → HasUpdateGoneOn e old m left left → HasUpdateGoneOn e old (standing m at) left left

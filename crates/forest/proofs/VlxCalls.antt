@@ -10,7 +10,7 @@ use Rattle.forest.specs.declared.pass.Pass.TheInside.{Inside}
 use Rattle.forest.specs.Traces.{run_at}
 use Rattle.forest.specs.StraightVlx.{vlx_at, AreSameSnaps, waits_over, SeatVlxBegins, SeatVlxEnds}
 use Rattle.forest.specs.Passes.{CanUse, Each, AreApart, HasNodeOf, HoldsOfOwn, VlxSays, run_of}
-use Rattle.forest.specs.PassInvariant.{pass_view, IsPass}
+use Rattle.forest.specs.PassInvariant.{pass_view, layout_in, IsPass}
 use Rattle.forest.specs.StepKinds.{HasLoadedInfosAlone}
 use Rattle.forest.specs.CallSteps.{no_map_of_cells}
 use Rattle.forest.specs.TableRule.{history_of}
@@ -41,7 +41,7 @@ among_at (snap ∷ snaps) n (inr x) = let y = among_at snaps n x in record { at 
 
 module _ {L : Type 0} (list : L → List Snap) {allows : Layout → History → ℕ → Type 0} {T : Type 0} (p : Inside T) (x : IsPass allows Records p) (number : ℕ) where
   pub vlx_begins : (snaps : L) → 0 < length (list snaps) → Each (CanUse (pass_view p)) (list snaps) → SeatVlxBegins list allows (call_of p x number) p.seat.me.0.passes snaps
-  vlx_begins snaps some usable = begun_with p x number tt (vlx_ready_first p.layout p.number.0 number x.is_pass _ (list snaps) 0 refl some (each_at (CanUse (pass_view p)) (list snaps) usable) (all_over p.layout _ p.number.0 p.share _ _ x.rest.share x.rest.over))
+  vlx_begins snaps some usable = begun_with p x number tt (vlx_ready_first (layout_in p) p.number.0 number x.is_pass _ (list snaps) 0 refl some (each_at (CanUse (pass_view p)) (list snaps) usable) (all_over (layout_in p) _ p.number.0 p.share _ _ x.rest.share x.rest.over))
 
   abbrev pub Looked : L → Vlx → History → Type 0
   Looked snaps a h = VlxAnswers (list snaps) (call_of p x number) h a

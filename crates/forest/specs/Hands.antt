@@ -1,7 +1,7 @@
 -- What a call has in hand, as the clauses of straight code see it.
-use Rattle.std.specs.Prelude.{◌≡◌, ℕ}
+use Rattle.std.specs.Prelude.{◌≡◌, ℕ, Bool}
 use Rattle.atomic_table.specs.declared.shared.Seat.{Seat}
-use Rattle.histories.specs.Common.{Ghosts as Machine, Call}
+use Rattle.histories.specs.Common.{Ghosts as Machine, Call, Mode}
 use Rattle.arena.specs.declared.machine.Shape.{Ghosts as Shape}
 use Rattle.forest.specs.declared.straight.hand.Hand.{Hand}
 use Rattle.forest.specs.declared.memory.PassMemory.{PassMemory}
@@ -10,6 +10,7 @@ use Rattle.arena.specs.declared.layout.Layout.{Layout}
 use Rattle.slots.specs.Lasting.{Lasting}
 use Rattle.forest.specs.CallKinds.{Calls, calls}
 use Rattle.forest.specs.Slotted.{names_of_table, slots_of_table}
+use Rattle.forest.specs.TablePlans.{IsTableOf}
 
 -- how the records of its table have slots, and the layout of their names
 abbrev pub hand_slots : {S : Type 0} → Hand S → Lasting
@@ -18,9 +19,13 @@ hand_slots hand = slots_of_table hand.words.now.table.shared.key
 abbrev pub names : {S : Type 0} → Hand S → Layout
 names hand = names_of_table hand.words.now.table.shared.key
 
--- the seat is at the table that has its words
-abbrev pub IsAt : {S : Type 0} → Hand S → Seat ℕ SeatView → Type 0
-IsAt hand seat = seat.table_id ≡ hand.words.now.table.shared.table_id
+-- its table is of a shape of this mode, whose records come back or not, and is as its plan says
+abbrev pub IsHandOf : {S : Type 0} (mode : Mode) (lasts : Bool) → Hand S → Type 0
+IsHandOf mode lasts hand = IsTableOf mode lasts hand.words.now.table.shared.table_id hand.words.now.table.shared.key hand.plan.now
+
+-- so it is, and the seat is at that table
+abbrev pub IsAt : {S : Type 0} (mode : Mode) (lasts : Bool) → Hand S → Seat ℕ SeatView → Type 0
+IsAt mode lasts hand seat = (seat.table_id ≡ hand.words.now.table.shared.table_id) × IsHandOf mode lasts hand
 
 -- the call has its layout and its number
 abbrev pub IsCallOf : {S : Type 0} → Hand S → Call → Type 0

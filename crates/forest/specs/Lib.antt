@@ -23,6 +23,8 @@ pub mod Hosts
 pub mod TableRule
 pub mod Seats
 pub mod Slotted
+pub mod TablePlans
+pub mod Lasts
 pub mod Leads
 pub mod InnerSteps
 pub mod JoinedSeats

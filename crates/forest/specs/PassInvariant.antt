@@ -1,25 +1,41 @@
 -- What is true of the fields of every pass.
-use Rattle.std.specs.Prelude.{◌≡◌, ◌<◌, ℕ, []}
-use Rattle.arena.specs.Layout.{IsMap}
+use Rattle.std.specs.Prelude.{◌≡◌, ◌<◌, ℕ, List, []}
+use Rattle.atomic_table.specs.declared.shared.Seat.{Seat}
+use Rattle.arena.specs.Layout.{IsMap, first_scx}
+use Rattle.arena.specs.Share.{Remaining}
 use Rattle.histories.specs.Common.{Mode, Layout, History, IsRun}
 use Rattle.forest.specs.declared.pass.Pass.TheInside.{Inside}
-use Rattle.forest.specs.Traces.{IsSeated, known_of, memory_of, planting_of, run_at}
-use Rattle.forest.specs.Shares.{EndsAsDealt, IsBetweenCalls}
+use Rattle.forest.specs.declared.view.SeatView.{SeatView}
+use Rattle.forest.specs.Traces.{IsSeated, known_of, layout_at, memory_of, planting_of, run_at}
+use Rattle.forest.specs.Shares.{EndsAsDealt, HasFewNames, IsBetweenCalls}
 use Rattle.forest.specs.Passes.{PassView, HasBlamed}
 
--- what contracts see of a pass
+-- what contracts see of a pass of this layout and number
+abbrev pub view_with : (lay : Layout) (number : ℕ) → Remaining → Seat ℕ SeatView → (blamed : List ℕ) → PassView
+view_with lay number share seat blamed = record { table = seat.table_id; layout = lay; planting = planting_of seat.me.0.passes; number = number; share = share; known = known_of seat.me.0.passes; blamed = blamed }
+
+-- the layout of a pass's names, as its first seat knew it
+abbrev pub layout_in : {T : Type 0} → Inside T → Layout
+layout_in p = layout_at p.birth.value.me.0.passes
+
 abbrev pub pass_view : {T : Type 0} → Inside T → PassView
-pass_view p = record { table = p.seat.table_id; layout = p.layout; planting = planting_of p.seat.me.0.passes; number = p.number.0; share = p.share; known = known_of p.seat.me.0.passes; blamed = p.blamed }
+pass_view p = view_with (layout_in p) p.number.0 p.share p.seat p.blamed
 
 -- what holds of every pass: its seat has it alone; in the run that it knows, a lawful one of a
 -- table of this mode, it is between two calls
-pub record IsPass (allows : Layout → History → ℕ → Type 0) (mode : Mode) {T : Type 0} (p : Inside T) : Type 0 where
-  pub seat : IsSeated p.number.0 p.layout p.seat.me.0.passes
-  pub bare : p.seat.me.1 ≡ []
-  pub is_mode : p.layout.mode ≡ mode
-  pub is_pass : p.number.0 < p.layout.passes
-  pub sound : IsRun allows p.layout (run_at p.seat.me.0.passes)
-  pub rest : IsBetweenCalls p.layout p.number.0 (run_at p.seat.me.0.passes) p.share
+pub record IsPassWith (allows : Layout → History → ℕ → Type 0) (mode : Mode) (lay : Layout) (number first : ℕ) (left : Remaining) (at : Seat ℕ SeatView) (blames : List ℕ) : Type 0 where
+  pub seat : IsSeated number lay at.me.0.passes
+  pub bare : at.me.1 ≡ []
+  pub is_mode : lay.mode ≡ mode
+  pub is_pass : number < lay.passes
+  pub first_is : first ≡ first_scx lay number
+  -- in a table of cells no record comes back
+  pub few : (IsMap lay.mode → ⊥) → HasFewNames lay
+  pub sound : IsRun allows lay (run_at at.me.0.passes)
+  pub rest : IsBetweenCalls lay number (run_at at.me.0.passes) left
   -- in a map all that is left of its share is dealt
-  pub dealt : IsMap p.layout.mode → EndsAsDealt p.share (memory_of p.seat.me.0.passes)
-  pub blamed : HasBlamed (pass_view p)
+  pub dealt : IsMap lay.mode → EndsAsDealt left (memory_of at.me.0.passes)
+  pub blamed : HasBlamed (view_with lay number left at blames)
+
+abbrev pub IsPass : (allows : Layout → History → ℕ → Type 0) (mode : Mode) {T : Type 0} → Inside T → Type 0
+IsPass allows mode p = IsPassWith allows mode (layout_in p) p.number.0 p.first_scx.0 p.share p.seat p.blamed

@@ -159,17 +159,6 @@ first_of_seat v = seat_view (first_of v.passes)
 abbrev pub joined_seat : SeatView → SeatView → SeatView
 joined_seat v w = seat_view (v.passes ++ w.passes)
 
--- the table has as many words as this layout, and each record a place of its own
-abbrev pub IsTableOf : TableId → Site → Layout → Type 0
-IsTableOf id site lay = (id.words ≡ table_size lay) × (site.layout ≡ lay) × (site.turns ≡ None)
-
--- a word of a record that has a name is at this place, where no other word of its slot is
-pub record IsPlaceOf (t : Lasting) (word : Word) (at : ℕ) : Type 0 where
-  pub is_word : IsWord t.lay word
-  pub is_place : at ≡ table_place t word
-  pub inside : at < table_size t.table
-  pub apart : (other : Word) → IsWord t.table other → place t.table other ≡ at → other ≡ slot_word t word
-
 -- a seat of one pass, of this layout
 pub record IsAlone (lay : Layout) (ps : List SeatedPass) : Type 0 where
   pub pass : SeatedPass

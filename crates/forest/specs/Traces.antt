@@ -1,5 +1,5 @@
 -- The course of a call: the rows that the run has got while it was made.
-use Rattle.std.specs.Prelude.{◌≡◌, ◌≢◌, ◌==◌, if◌then◌else◌, ℕ, suc, false, List, [], ◌∷◌, Option, Some, None}
+use Rattle.std.proofs.Common.{◌≡◌, ◌≢◌, ◌==◌, if◌then◌else◌, ℕ, suc, false, List, [], ◌∷◌, Option, Some, None, refl, arith}
 use Rattle.histories.specs.Common.{Layout, Row, Step, History, ◌⊳◌, Extends, Call, IsRun, MatchTurn, row_of, Turn, Ask, Done, most_taken}
 use Rattle.forest.specs.declared.memory.PassMemory.{PassMemory}
 use Rattle.forest.specs.declared.view.SeatedPass.{SeatedPass}
@@ -76,6 +76,15 @@ shared_nodes lay = most_taken lay
 abbrev pub weight : {A : Type 0} → Turn A → ℕ → ℕ
 weight (Ask s) n = suc n
 weight (Done a) n = 0
+
+-- the layout of no table
+pub no_layout : Layout
+no_layout = record { mode = Records; passes = 0; nodes = 0; scx = 0; planted = 0; node_words = 162; words = 176; passes_fit = omega arith; nodes_fit = omega arith; scx_fit = omega arith; planted_fit = omega arith; counted = refl; many = omega arith; all_counted = refl }
+
+-- the layout of the names of the one pass of a seat
+abbrev pub layout_at : List SeatedPass → Layout
+layout_at [] = no_layout
+layout_at (p ∷ ps) = p.layout
 
 -- what is planted in the table of the one pass of a seat
 abbrev pub planting_of : List SeatedPass → PlantingView

@@ -21,14 +21,15 @@ use crate::fault::PairsFault;
 use crate::forest::Forest;
 use crate::pass::Pass;
 use crate::rule::Plot;
+use crate::table_shape::FilledOnce;
 use arena::{Layout, Limits, NoMemory};
 use dict::{Dict, WordKey, WordValue, number_of};
 use ordered_map::Pair;
 use planting::{MOST_NODES, Planting, first_fall, with_room};
 use std::alloc::Global;
-use template::{FixedBalance, map_mode};
+use template::map_mode;
 
-impl<K: WordKey, V: WordValue, B: FixedBalance> Forest<Dict<K, V, B>> {
+impl<K: WordKey, V: WordValue, B: FilledOnce> Forest<Dict<K, V, B>> {
     /// A dictionary that begins with these pairs, in rising order of keys, and a pass for each
     /// client. Each pass has its whole share: the nodes of the pairs are beside the shares, so that
     /// a pass may do as much as in an empty dictionary. A tree is balanced, with as few leaves as
@@ -61,7 +62,7 @@ impl<K: WordKey, V: WordValue, B: FixedBalance> Forest<Dict<K, V, B>> {
     }
 }
 
-impl<K: WordKey, V: WordValue, B: FixedBalance> Closed<Dict<K, V, B>> {
+impl<K: WordKey, V: WordValue, B: FilledOnce> Closed<Dict<K, V, B>> {
     /// A dictionary that begins with the pairs that this one was left with, and a pass for each
     /// client, as `Forest::of_pairs`. It reads the table once. What was closed stays, so that after
     /// a refusal it may be tried again; the keys of a map rise, so that `Order` does not come.

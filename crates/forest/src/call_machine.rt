@@ -9,6 +9,7 @@ ghost use Rattle.forest.specs.CallSteps.{AnyLeft, HasDictLeft, cells_dealt, cell
 ghost use Rattle.forest.specs.LastingMemory.{FillsDealt};
 ghost use Rattle.forest.specs.declared.memory.PassMemory.{PassMemory};
 
+use crate::table_shape::TableShape;
 use arena::{Machine, Shape};
 use dict::{Dict, DictRun, WordKey, WordValue};
 use prims::{Cells, LlxRun, PutRun, SnapList, VlxRun};
@@ -33,7 +34,7 @@ pub trait CallMachine<S: Shape>: Machine<S> {
 }
 
 /// A shape of tables that hold no map.
-pub trait CellShape: Shape {
+pub trait CellShape: TableShape {
     /// They hold none.
     ghost no_map: { IsMap Self.mode → ⊥ };
 }

@@ -14,12 +14,14 @@ ghost use Rattle.ordered_map.specs.Replies.{word_pair};
 ghost use Rattle.forest.specs.Copies.{AreCopied, map_word};
 ghost use Rattle.forest.specs.declared.view.SeatedPass.{SeatedPass};
 ghost use Rattle.forest.specs.Slotted.{names_of_table};
-ghost use Rattle.forest.specs.TableRule.{IsTableOf, history_of};
+ghost use Rattle.forest.specs.TablePlans.{IsTableOnce};
+ghost use Rattle.forest.specs.TableRule.{history_of};
 ghost use Rattle.forest.specs.Passes.{IsOn, IsOf, PassView, AreAllBack, IsClosed};
 ghost use Rattle.forest.specs.JoinedSeats.{IsFrom, AreIn};
 
 use crate::forest::Forest;
 use crate::pass::Pass;
+use crate::table_shape::{TableOnce, Upkeep};
 use crate::view::SeatView;
 use crate::words::Words;
 use arena::{
@@ -33,7 +35,6 @@ use prims::Cells;
 use std::alloc::Global;
 use std::fmt;
 use std::marker::{Model, PhantomData};
-use template::FixedBalance;
 
 /// The words of a forest that no thread shares any more.
 pub struct Closed<S: Shape> {
@@ -67,7 +68,7 @@ impl Closed<Cells> {
     }
 }
 
-impl<K: WordKey, V: WordValue, B: FixedBalance> Closed<Dict<K, V, B>> {
+impl<K: WordKey, V: WordValue, B: Upkeep> Closed<Dict<K, V, B>> {
     /// The pairs of the map, by rising key, as its run has left them. The only error is want of
     /// memory: it copies the words of all nodes first.
     pub fn pairs(&self, alloc: Global) -> Result<Vec<(K, V)>, NoMemory>
@@ -181,7 +182,7 @@ impl<S: Shape> Drop for Closed<S> {
     }
 }
 
-impl<S: Shape> Forest<S> {
+impl<S: TableOnce> Forest<S> {
     /// Ends the forest: each of its passes, which are all there, looks at the table once more. It
     /// takes no memory.
     pub fn close(self, passes: Vec<Pass<S>>) -> Closed<S>
@@ -192,9 +193,10 @@ impl<S: Shape> Forest<S> {
     {
         let Forest {
             words,
-            layout,
+            plan,
             tries: _,
         } = self;
+        let layout = plan.layout;
         match gather(&words, &layout, passes) {
             Some(seat) => Closed {
                 words: words.close(seat),
@@ -214,9 +216,10 @@ impl<S: Shape> Forest<S> {
     {
         let Forest {
             words,
-            layout,
+            plan,
             tries: _,
         } = self;
+        let layout = plan.layout;
         let seat = seat_of(&words, &layout, pass);
         Closed {
             words: words.close(seat),
@@ -232,7 +235,7 @@ fn gather<S: Shape>(
     layout: &Layout,
     mut passes: Vec<Pass<S>>,
 ) -> Option<Seat<u8, SeatView>>
-    requires table { IsTableOf words.now.table.shared.table_id words.now.table.shared.key layout.now }
+    requires table { IsTableOnce words.now.table.shared.table_id words.now.table.shared.key layout.now }
     requires passes { All (IsOn words.now.table.shared.table_id (names_of_table words.now.table.shared.key)) passes.items }
     ensures some { 0 < vec_len passes → IsSome result }
     ensures table { IfSome result (λ s. s.table_id ≡ words.now.table.shared.table_id) }
@@ -241,14 +244,14 @@ fn gather<S: Shape>(
     let mut all = seat_of(words, layout, passes.pop()?);
     while let Some(pass) = passes.pop() {
         let own = seat_of(words, layout, pass);
-        words.take_in(layout, &mut all, own);
+        words.take_in(&mut all, own);
     }
     Some(all)
 }
 
 /// The seat of a pass, which has looked at the table once more.
 fn seat_of<S: Shape>(words: &Words<S>, layout: &Layout, pass: Pass<S>) -> Seat<u8, SeatView>
-    requires table { IsTableOf words.now.table.shared.table_id words.now.table.shared.key layout.now }
+    requires table { IsTableOnce words.now.table.shared.table_id words.now.table.shared.key layout.now }
     requires pass { IsOn words.now.table.shared.table_id (names_of_table words.now.table.shared.key) pass }
     ensures table { result.table_id ≡ words.now.table.shared.table_id }
     ensures bare { result.me.1 ≡ [] }
@@ -256,10 +259,11 @@ fn seat_of<S: Shape>(words: &Words<S>, layout: &Layout, pass: Pass<S>) -> Seat<u
 {
     let Pass {
         number: _,
-        layout: _,
+        first_scx: _,
         share: _,
         seat,
         blamed: _,
+        birth: _,
         shape: _,
     } = pass;
     let mut seat = seat;

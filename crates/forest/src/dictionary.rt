@@ -20,12 +20,13 @@ use crate::forest::Forest;
 use crate::pass::Pass;
 use crate::straight::hand::Hand;
 use crate::straight::{calls, walk};
+use crate::table_shape::{FilledOnce, Upkeep};
 use arena::{Limits, NoMemory, PassNo, Shape, Share};
 use dict::{Dict, DictRun, Reply, Request, WordKey, WordValue, number_of, value_of};
 use order::leaf_way;
 use std::alloc::Global;
 use std::mem::replace;
-use template::{FixedBalance, Goal, map_mode};
+use template::{Goal, map_mode};
 use tree::{
     AtGreatest, AtKey, AtLeast, EditGoal, EditRule, GoalIn, KeyEdit, PutNewRule, PutRule, SwapRule,
     TakeIfRule, TakeRule,
@@ -87,7 +88,7 @@ fn told_neighbour<K: WordKey, V: WordValue>(
     }
 }
 
-impl<K: WordKey, V: WordValue, B: FixedBalance> Forest<Dict<K, V, B>> {
+impl<K: WordKey, V: WordValue, B: FilledOnce> Forest<Dict<K, V, B>> {
     /// An empty dictionary within these limits, and a pass for each client. Refused are limits out
     /// of range and want of memory.
     pub fn new(
@@ -109,7 +110,9 @@ impl<K: WordKey, V: WordValue, B: FixedBalance> Forest<Dict<K, V, B>> {
             Err(NoMemory) => Err(NewFault::NoMemory),
         }
     }
+}
 
+impl<K: WordKey, V: WordValue, B: Upkeep> Forest<Dict<K, V, B>> {
     /// Sets a key to a value, and returns the value that the key had just before. It takes at most
     /// three nodes and an SCX-record of the pass's share in a try, and no memory. The pass blames
     /// the SCX-record that `Contended` names. After Brown, Ellen and Ruppert (PPoPP 2014), as are
@@ -232,7 +235,7 @@ impl<K: WordKey, V: WordValue, B: FixedBalance> Forest<Dict<K, V, B>> {
         let number = pass.taken();
         let hand = Hand {
             words: &self.words,
-            layout: &self.layout,
+            plan: &self.plan,
             number,
             size: Dict::<K, V, B>::node_size(),
         };
@@ -339,10 +342,10 @@ impl<K: WordKey, V: WordValue, B: FixedBalance> Forest<Dict<K, V, B>> {
             rule: edit.rule,
         };
         let number = pass.taken();
-        let share = replace(&mut pass.share, Share::of(&self.layout, PassNo(0)));
+        let share = replace(&mut pass.share, Share::of(&self.plan.layout, PassNo(0)));
         let hand = Hand {
             words: &self.words,
-            layout: &self.layout,
+            plan: &self.plan,
             number,
             size: Dict::<K, V, B>::node_size(),
         };
@@ -370,7 +373,7 @@ impl<K: WordKey, V: WordValue, B: FixedBalance> Forest<Dict<K, V, B>> {
         let number = pass.taken();
         let hand = Hand {
             words: &self.words,
-            layout: &self.layout,
+            plan: &self.plan,
             number,
             size: Dict::<K, V, B>::node_size(),
         };

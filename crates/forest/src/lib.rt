@@ -18,6 +18,8 @@ mod pass;
 mod rule;
 mod steps;
 mod straight;
+mod table_plan;
+mod table_shape;
 mod view;
 mod words;
 
@@ -29,3 +31,4 @@ pub use lasting_laws::{looks_last, names_last, rests_last, seats_last, slots_las
 pub use lasting_sights::{finished_last, sights_last, trees_last};
 pub use open::{OpenCall, Stepped};
 pub use pass::Pass;
+pub use table_shape::{FilledOnce, TableOnce, TableShape, Upkeep};

@@ -1,6 +1,8 @@
 //! How two passes come to know what both knew.
 ghost use Rattle.std.specs.Prelude.{◌≡◌, []};
-ghost use Rattle.forest.specs.TableRule.{IsTableOf, Met, IsAlone};
+ghost use Rattle.forest.specs.Seats.{IsSeatAt};
+ghost use Rattle.forest.specs.TablePlans.{IsTableOnce};
+ghost use Rattle.forest.specs.TableRule.{Met, IsAlone};
 
 use crate::view::SeatView;
 use crate::words::Words;
@@ -16,9 +18,8 @@ pub(crate) fn meet<S: Shape>(
     one: &mut Seat<u8, SeatView>,
     other: &mut Seat<u8, SeatView>,
 )
-    requires table { IsTableOf words.now.table.shared.table_id words.now.table.shared.key layout.now
-        × (one.old.table_id ≡ words.now.table.shared.table_id)
-        × (other.old.table_id ≡ words.now.table.shared.table_id) }
+    requires table { IsTableOnce words.now.table.shared.table_id words.now.table.shared.key layout.now }
+    requires seats { IsSeatAt words.now one.old × IsSeatAt words.now other.old }
     requires bare { (one.old.me.1 ≡ []) × (other.old.me.1 ≡ []) }
     requires first { IsAlone layout.now one.old.me.0.passes }
     requires second { IsAlone layout.now other.old.me.0.passes }
@@ -26,10 +27,10 @@ pub(crate) fn meet<S: Shape>(
     ensures bare { (one.new.me.1 ≡ []) × (other.new.me.1 ≡ []) }
     ensures met { Met S.allows one.old.me.0.passes other.old.me.0.passes one.new.me.0.passes other.new.me.0.passes }
 {
-    let mine = words.deal(layout, one);
-    words.take_in(layout, other, mine);
+    let mine = words.deal(one);
+    words.take_in(other, mine);
     words.look(layout, other);
     words.look(layout, other);
-    let theirs = words.deal(layout, other);
+    let theirs = words.deal(other);
     *one = replace(other, theirs);
 }

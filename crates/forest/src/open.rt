@@ -18,15 +18,16 @@ use crate::forest::Forest;
 use crate::pass::Pass;
 use crate::steps::advance;
 use crate::straight::hand::Hand;
+use crate::table_shape::Upkeep;
 use crate::view::SeatView;
-use arena::{Kind, Layout, Machine, PassNo, Turn};
+use arena::{Kind, Machine, PassNo, ScxNo, Turn};
 use atomic_table::Seat;
 use dict::{Dict, DictRun, Reply, Request, WordKey, WordValue};
 use std::alloc::Global;
 use std::fmt;
 use std::marker::{Model, PhantomData};
 use std::snapshot::Snapshot;
-use template::{ByOrder, FixedBalance};
+use template::ByOrder;
 
 /// What a step of a call leaves.
 #[derive(Clone, Copy, Debug, PartialEq, Eq)]
@@ -40,11 +41,14 @@ pub enum Stepped {
 /// A call that has begun, with its pass: `step` makes one atomic step, and `finish`, once a step
 /// has returned `Done`, gives pass and reply.
 #[derive(Drop)]
-pub struct OpenCall<K: WordKey, V: WordValue, B: FixedBalance = ByOrder> {
+pub struct OpenCall<K: WordKey, V: WordValue, B: Upkeep = ByOrder> {
     number: PassNo,
-    layout: Layout,
+    /// The first SCX-record of the pass's share.
+    first_scx: ScxNo,
     seat: Seat<u8, SeatView>,
     blamed: Blamed,
+    /// The pass's seat as it was made, for proofs alone.
+    birth: Snapshot<Seat<u8, SeatView>>,
     /// Which of the pass's calls it is.
     call: u64,
     run: DictRun<K, V>,
@@ -54,7 +58,7 @@ pub struct OpenCall<K: WordKey, V: WordValue, B: FixedBalance = ByOrder> {
     began: Snapshot<Pass<Dict<K, V, B>>>,
 }
 
-impl<K: WordKey, V: WordValue, B: FixedBalance> Model for OpenCall<K, V, B> {
+impl<K: WordKey, V: WordValue, B: Upkeep> Model for OpenCall<K, V, B> {
     ghost use Rattle.forest.specs.Opened.{OpenView};
 
     ghost Value = { OpenView };
@@ -66,7 +70,7 @@ impl<K: WordKey, V: WordValue, B: FixedBalance> Model for OpenCall<K, V, B> {
     ghost invariant = { IsOpen K.is_valid K.word_of V.is_valid V.word_of (B.trie B.the) };
 }
 
-impl<K: WordKey, V: WordValue, B: FixedBalance> Forest<Dict<K, V, B>> {
+impl<K: WordKey, V: WordValue, B: Upkeep> Forest<Dict<K, V, B>> {
     /// Begins a call with this pass, which it keeps until it is finished. It has made no step yet.
     pub fn open(
         &self,
@@ -88,10 +92,11 @@ impl<K: WordKey, V: WordValue, B: FixedBalance> Forest<Dict<K, V, B>> {
         let call = pass.taken();
         let Pass {
             number,
-            layout,
+            first_scx,
             share,
             seat,
             blamed,
+            birth,
             shape: _,
         } = pass;
         let mut run = DictRun::new(
@@ -105,9 +110,10 @@ impl<K: WordKey, V: WordValue, B: FixedBalance> Forest<Dict<K, V, B>> {
         let turn = Machine::<Dict<K, V, B>>::next(&mut run, None);
         OpenCall {
             number,
-            layout,
+            first_scx,
             seat,
             blamed,
+            birth,
             call,
             run,
             turn,
@@ -117,7 +123,7 @@ impl<K: WordKey, V: WordValue, B: FixedBalance> Forest<Dict<K, V, B>> {
     }
 }
 
-impl<K: WordKey, V: WordValue, B: FixedBalance> OpenCall<K, V, B> {
+impl<K: WordKey, V: WordValue, B: Upkeep> OpenCall<K, V, B> {
     /// Makes the next atomic step of the call, which is of this forest.
     pub fn step(&mut self, forest: &Forest<Dict<K, V, B>>) -> Stepped
         requires forest { IsOf forest.now self.old.began }
@@ -132,12 +138,12 @@ impl<K: WordKey, V: WordValue, B: FixedBalance> OpenCall<K, V, B> {
             self.over = true;
             return Stepped::Done(None);
         };
-        let (step, layout) = (*step, self.layout);
+        let (step, plan) = (*step, forest.plan);
         let hand = Hand {
             words: &forest.words,
-            layout: &layout,
+            plan: &plan,
             number: self.call,
-            size: layout.mode.node_size(),
+            size: plan.layout.mode.node_size(),
         };
         self.turn = advance::<Dict<K, V, B>, DictRun<K, V>, Dict<K, V, B>, DictRun<K, V>>(
             hand,
@@ -166,9 +172,10 @@ impl<K: WordKey, V: WordValue, B: FixedBalance> OpenCall<K, V, B> {
     {
         let OpenCall {
             number,
-            layout,
+            first_scx,
             seat,
             mut blamed,
+            birth,
             call: _,
             run,
             turn,
@@ -182,17 +189,18 @@ impl<K: WordKey, V: WordValue, B: FixedBalance> OpenCall<K, V, B> {
         blamed.note_reply(&reply);
         let pass = Pass {
             number,
-            layout,
+            first_scx,
             share: run.into_share(),
             seat,
             blamed,
+            birth,
             shape: PhantomData,
         };
         (pass, reply)
     }
 }
 
-impl<K: WordKey, V: WordValue, B: FixedBalance> fmt::Debug for OpenCall<K, V, B> {
+impl<K: WordKey, V: WordValue, B: Upkeep> fmt::Debug for OpenCall<K, V, B> {
     fn fmt<W: fmt::Write>(&self, f: &mut fmt::Formatter<W>) -> fmt::Result {
         f.debug_struct("OpenCall")
             .field("pass", &self.number.0)

@@ -7,23 +7,28 @@ ghost use Rattle.planting.specs.Plantings.{opening_for};
 ghost use Rattle.forest.specs.TableRule.{all_dealt, seated_pass};
 ghost use Rattle.forest.specs.Traces.{planting_of};
 ghost use Rattle.forest.specs.Passes.{PassView, taken_of};
+ghost use Rattle.forest.specs.Shares.{HasFewNames};
 
 use crate::blamed::Blamed;
 use crate::view::SeatView;
-use arena::{Layout, PassNo, Shape, Share};
+use arena::{Layout, PassNo, ScxNo, Shape, Share};
 use atomic_table::Seat;
 use std::fmt;
 use std::marker::{Model, PhantomData};
+use std::snapshot::Snapshot;
 
 /// A part in a forest: a number, a share of the nodes and SCX-records, the run that it knows, and
 /// whom its calls have blamed. A thread has one, and gives it to each call.
 #[derive(Drop)]
 pub struct Pass<S: Shape> {
     pub(crate) number: PassNo,
-    pub(crate) layout: Layout,
+    pub(crate) first_scx: ScxNo,
     pub(crate) share: Share,
     pub(crate) seat: Seat<u8, SeatView>,
     pub(crate) blamed: Blamed,
+    /// The seat as it was made. Only proofs read it, for the layout of its names: no bytes are
+    /// kept.
+    pub(crate) birth: Snapshot<Seat<u8, SeatView>>,
     pub(crate) shape: PhantomData<S>,
 }
 
@@ -49,6 +54,7 @@ impl<S: Shape> Pass<S> {
         requires run { IsRun S.allows layout.now (Opened (opening_for (planting_of seat.me.0.passes))) }
         requires pass { number.0 < layout.now.passes }
         requires mode { layout.now.mode ≡ S.mode }
+        requires few { HasFewNames layout.now }
         ensures { result
             ≡ record {
               table = seat.table_id;
@@ -60,12 +66,14 @@ impl<S: Shape> Pass<S> {
               blamed = [];
             } }
     {
+        let birth = Snapshot::of(&seat);
         Pass {
             number,
-            layout: *layout,
+            first_scx: ScxNo(u64::from(layout.first_scx(number))),
             share: Share::of(layout, number),
             seat,
             blamed: Blamed::new(),
+            birth,
             shape: PhantomData,
         }
     }
@@ -82,7 +90,8 @@ impl<S: Shape> Pass<S> {
     pub(crate) fn taken(&self) -> u64
         ensures { result ≡ taken_of self.now }
     {
-        u64::from(self.layout.scx - self.left().1)
+        let (_, next) = self.share.next();
+        next.0 - self.first_scx.0
     }
 
     /// How many nodes and SCX-records are left of its share: never more than before.

@@ -10,10 +10,10 @@ ghost use Rattle.arena.specs.Machines.{IsRun};
 ghost use Rattle.planting.specs.Plantings.{opening_for};
 ghost use Rattle.forest.specs.declared.view.SeatedPass.{SeatedPass};
 ghost use Rattle.forest.specs.LastingRule.{MayStepOn};
-ghost use Rattle.forest.specs.Seats.{IsSeatAt, StaysAtTable};
 ghost use Rattle.forest.specs.Ruled.{IsRuled, MayLast};
-ghost use Rattle.forest.specs.Slotted.{plot_at, slots_of_table};
-ghost use Rattle.forest.specs.TableRule.{IsPlaceOf, IsTableOf, MayStep, Made, Looked, look, new_passes, rest_of, first_of};
+ghost use Rattle.forest.specs.Slotted.{plot_at};
+ghost use Rattle.forest.specs.TablePlans.{IsPlaceOf, IsTableOnce};
+ghost use Rattle.forest.specs.TableRule.{MayStep, Made, Looked, look, new_passes, rest_of, first_of};
 
 use crate::rule::{Both, CallStep, Deal, Lawful, Looks, Makes, Says, Site};
 use crate::view::SeatView;
@@ -26,9 +26,12 @@ use std::marker::Brand;
 #[derive(Drop)]
 pub(crate) struct Words<S: Shape> {
     table: Table<u8, SeatView, Site, Lawful<S>, Global>,
+    ghost some: { 0 < table.shared.table_id.words },
 }
 
 impl<S: Shape> Words<S> {
+    ghost use Rattle.forest.specs.Seats.{IsSeatAt, IsSameSeat, StaysAtTable};
+
     /// The words of a table as they are at the start, with a seat that has all passes.
     pub(crate) fn open(
         alloc: Global,
@@ -39,7 +42,7 @@ impl<S: Shape> Words<S> {
         requires run { IsRun S.allows site.now.layout (Opened (opening_for site.now.planting)) }
         ensures key { IfOk result (λ w. w.0.table.shared.key ≡ site.now) }
         ensures table { IfOk result
-            (λ w. IsTableOf w.0.table.shared.table_id w.0.table.shared.key site.now.layout
+            (λ w. (w.0.table.shared.table_id.words ≡ table_size site.now.layout)
             × (w.0.table.shared.table_id.slots ≡ 0)
             × (w.1.table_id ≡ w.0.table.shared.table_id)) }
         ensures seat { IfOk result
@@ -61,10 +64,10 @@ impl<S: Shape> Words<S> {
         at: usize,
     ) -> u64
         requires said { said.now ≡ J.said }
-        requires table { (seat.old.table_id ≡ self.now.table.shared.table_id)
-            × (table_size self.now.table.shared.key.layout ≤ self.now.table.shared.table_id.words) }
+        requires table { IsSeatAt self.now seat.old }
         requires last { MayLast S.mode S.allows self.now.table.shared.key }
-        requires place { IsPlaceOf (slots_of_table self.now.table.shared.key) said.now.step.word at }
+        requires place { IsPlaceOf self.now.table.shared.key self.now.table.shared.table_id.words
+            said.now.step.word at }
         requires may { (p : SeatedPass) × (seat.old.me.0.passes ≡ p ∷ [])
             × MayStep S.allows said.now p }
         requires in_map { IsMap S.mode → (p : SeatedPass) × (seat.old.me.0.passes ≡ p ∷ [])
@@ -87,10 +90,11 @@ impl<S: Shape> Words<S> {
 
     /// A look at the table by the only pass of a seat, which is no step of a call.
     pub(crate) fn look_alone(&self, layout: &Layout, seat: &mut Seat<u8, SeatView>)
-        requires table { IsSeatAt self.now layout.now seat.old }
+        requires table { IsSeatAt self.now seat.old }
+        requires once { IsTableOnce self.now.table.shared.table_id self.now.table.shared.key layout.now }
         requires one { (p : SeatedPass) × (seat.old.me.0.passes ≡ p ∷ [])
             × (p.layout ≡ layout.now) × (p.number.0 < layout.now.passes) }
-        ensures table { StaysAtTable seat.old seat.new }
+        ensures table { IsSameSeat seat.old seat.new }
         ensures looked { (n : ℕ) × Made S.allows look seat.old.me.0.passes n seat.new.me.0.passes }
     {
         let head = Word::Node(NodeNo(0), NodeWord::Settled(SettledPart::Head));
@@ -100,10 +104,11 @@ impl<S: Shape> Words<S> {
 
     /// A look at the table by the first of two passes of a seat, which is then the second.
     pub(crate) fn look(&self, layout: &Layout, seat: &mut Seat<u8, SeatView>)
-        requires table { IsSeatAt self.now layout.now seat.old }
+        requires table { IsSeatAt self.now seat.old }
+        requires once { IsTableOnce self.now.table.shared.table_id self.now.table.shared.key layout.now }
         requires two { (p : SeatedPass) × (q : SeatedPass) × (seat.old.me.0.passes ≡ p ∷ q ∷ [])
             × (p.layout ≡ layout.now) × (p.number.0 < layout.now.passes) }
-        ensures table { StaysAtTable seat.old seat.new }
+        ensures table { IsSameSeat seat.old seat.new }
         ensures looked { Looked S.allows seat.old.me.0.passes seat.new.me.0.passes }
     {
         let head = Word::Node(NodeNo(0), NodeWord::Settled(SettledPart::Head));
@@ -112,8 +117,8 @@ impl<S: Shape> Words<S> {
     }
 
     /// A seat for the first pass of a seat.
-    pub(crate) fn deal(&self, layout: &Layout, seat: &mut Seat<u8, SeatView>) -> Seat<u8, SeatView>
-        requires table { IsSeatAt self.now layout.now seat.old }
+    pub(crate) fn deal(&self, seat: &mut Seat<u8, SeatView>) -> Seat<u8, SeatView>
+        requires table { IsSeatAt self.now seat.old }
         ensures table { (seat.new.table_id ≡ seat.old.table_id)
             × (result.table_id ≡ seat.old.table_id) }
         ensures bare { (seat.new.me.1 ≡ seat.old.me.1) × (result.me.1 ≡ []) }
@@ -124,17 +129,10 @@ impl<S: Shape> Words<S> {
     }
 
     /// A seat takes in the passes of another.
-    pub(crate) fn take_in(
-        &self,
-        layout: &Layout,
-        seat: &mut Seat<u8, SeatView>,
-        other: Seat<u8, SeatView>,
-    )
-        requires table { IsTableOf self.now.table.shared.table_id self.now.table.shared.key layout.now
-            × (seat.old.table_id ≡ self.now.table.shared.table_id)
-            × (other.table_id ≡ self.now.table.shared.table_id) }
+    pub(crate) fn take_in(&self, seat: &mut Seat<u8, SeatView>, other: Seat<u8, SeatView>)
+        requires table { IsSeatAt self.now seat.old × IsSeatAt self.now other }
         requires bare { other.me.1 ≡ [] }
-        ensures table { StaysAtTable seat.old seat.new }
+        ensures table { IsSameSeat seat.old seat.new }
         ensures passes { seat.new.me.0.passes ≡ seat.old.me.0.passes ++ other.me.0.passes }
     {
         self.table.shared.join_seat::<Both>(seat, other)

@@ -58,10 +58,11 @@ pub use arena::{
     BadLimits, Full, Kind, Limits, NoMemory, NodeNo, PassNo, Resource, ScxNo, Shape, Side,
 };
 pub use dict::{
-    ByBits, ByOrder, Dict, FixedBalance, Name8, Reply, Request, Trie, WordKey, WordValue,
+    ByBits, ByOrder, Dict, Name8, Reply, Request, Trie, WordKey, WordValue,
 };
 pub use forest::{
-    Closed, Forest, NewFault, OpenCall, OrderFault, PairsFault, Pass, Stepped, UpdateFault,
+    Closed, FilledOnce, Forest, NewFault, OpenCall, OrderFault, PairsFault, Pass, Stepped,
+    UpdateFault,
 };
 pub use laws::version_laws_hold;
 pub use ordered_map::{laws_hold, map_laws_hold, trie_laws_hold};

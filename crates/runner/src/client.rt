@@ -11,10 +11,9 @@ use crate::gate::Gate;
 use crate::request::request_of;
 use arena::{NoMemory, PassNo};
 use dict::{Dict, Reply, Request};
-use forest::{Forest, OpenCall, Pass, Stepped};
+use forest::{FilledOnce, Forest, OpenCall, Pass, Stepped};
 use script::Call;
 use std::alloc::Global;
-use template::FixedBalance;
 
 /// A dictionary of numbers, a tree or a trie.
 pub(crate) type Numbers<B> = Dict<u64, u128, B>;
@@ -24,7 +23,7 @@ pub(crate) type Worked<B> = Result<(Pass<Numbers<B>>, Vec<Reply<u64, u128>>), No
 
 /// Makes the calls of the pass's client among these, one after the other, and notifies the gate of
 /// them. The only error is want of memory.
-pub(crate) fn make_calls<G: Gate, B: FixedBalance>(
+pub(crate) fn make_calls<G: Gate, B: FilledOnce>(
     alloc: Global,
     forest: &Forest<Numbers<B>>,
     gate: &G,
@@ -51,7 +50,7 @@ pub(crate) fn make_calls<G: Gate, B: FixedBalance>(
 }
 
 /// Makes a whole call, one atomic step at a time.
-fn make_call<G: Gate, B: FixedBalance>(
+fn make_call<G: Gate, B: FilledOnce>(
     alloc: Global,
     forest: &Forest<Numbers<B>>,
     gate: &G,
@@ -73,7 +72,7 @@ fn make_call<G: Gate, B: FixedBalance>(
 }
 
 /// Makes the steps of a call.
-fn make_steps<G: Gate, B: FixedBalance>(
+fn make_steps<G: Gate, B: FilledOnce>(
     forest: &Forest<Numbers<B>>,
     gate: &G,
     client: PassNo,

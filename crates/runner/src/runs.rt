@@ -13,12 +13,12 @@ use crate::gate::Gate;
 use crate::outcome::Outcome;
 use crate::thread::{Works, join_all, start_all};
 use arena::{Mode, NoMemory};
-use forest::{Forest, Pass};
+use forest::{FilledOnce, Forest, Pass};
 use script::{Call, Script};
 use std::alloc::Global;
 use std::sync::Wait;
 use std::thread::{Threads, scope, scope_env};
-use template::{ByBits, ByOrder, FixedBalance};
+use template::{ByBits, ByOrder};
 
 /// Runs a script of a map with a thread for each client, which notifies the gate of its calls. The
 /// only error is want of memory, also for a thread: those that were started have ended then.
@@ -38,7 +38,7 @@ pub fn run<R: Threads + Wait + Sync, G: Gate>(
 }
 
 /// The same, of a tree or of a trie, as the type says.
-fn run_by<R: Threads + Wait + Sync, G: Gate, B: FixedBalance + Send>(
+fn run_by<R: Threads + Wait + Sync, G: Gate, B: FilledOnce + Send>(
     rt: &R,
     alloc: Global,
     script: &Script,
@@ -56,7 +56,7 @@ fn run_by<R: Threads + Wait + Sync, G: Gate, B: FixedBalance + Send>(
 }
 
 /// Each client makes its calls in a thread of its own.
-fn crowd<R: Threads + Wait + Sync, G: Gate, B: FixedBalance + Send>(
+fn crowd<R: Threads + Wait + Sync, G: Gate, B: FilledOnce + Send>(
     rt: &R,
     alloc: Global,
     forest: &Forest<Numbers<B>>,

@@ -10,12 +10,11 @@ use crate::client::{Numbers, Worked, make_calls};
 use crate::gate::Gate;
 use arena::NoMemory;
 use dict::Reply;
-use forest::{Forest, Pass};
+use forest::{FilledOnce, Forest, Pass};
 use script::Call;
 use std::alloc::Global;
 use std::snapshot::Snapshot;
 use std::thread::{Promise, PromisedHandle, Scope, Threads};
-use template::FixedBalance;
 
 /// What the threads give back: the passes, and the replies of their clients.
 pub(crate) type Works<B> = Result<(Vec<Pass<Numbers<B>>>, Vec<Vec<Reply<u64, u128>>>), NoMemory>;
@@ -26,13 +25,13 @@ pub(crate) type Thread<'a, B> = PromisedHandle<Worked<B>, Duty<'a, B>>;
 /// What the thread of a client is to do: to make the client's calls among these in a forest, by the
 /// client's pass.
 #[derive(Drop)]
-pub(crate) struct Duty<'a, B: FixedBalance> {
+pub(crate) struct Duty<'a, B: FilledOnce> {
     forest: &'a Forest<Numbers<B>>,
     calls: &'a [Call],
     pass: Snapshot<Pass<Numbers<B>>>,
 }
 
-impl<'a, B: FixedBalance> Promise<Worked<B>> for Duty<'a, B> {
+impl<'a, B: FilledOnce> Promise<Worked<B>> for Duty<'a, B> {
     ghost use Rattle.std.specs.Prelude.{IfOk};
     ghost use Rattle.runner.specs.Calls.{HasWorked};
 
@@ -41,7 +40,7 @@ impl<'a, B: FixedBalance> Promise<Worked<B>> for Duty<'a, B> {
 
 /// Starts a thread for each pass, and returns whether all were started. The only error is want of
 /// memory before the first.
-pub(crate) fn start_all<'s, E, G: Gate, B: FixedBalance + Send>(
+pub(crate) fn start_all<'s, E, G: Gate, B: FilledOnce + Send>(
     alloc: Global,
     scope: &Scope<'s, E>,
     forest: &'s Forest<Numbers<B>>,
@@ -78,7 +77,7 @@ pub(crate) fn start_all<'s, E, G: Gate, B: FixedBalance + Send>(
 }
 
 /// Waits for all threads, and gathers what they give back.
-pub(crate) fn join_all<'s, R: Threads, B: FixedBalance>(
+pub(crate) fn join_all<'s, R: Threads, B: FilledOnce>(
     rt: &R,
     alloc: Global,
     threads: Vec<Thread<'s, B>>,
@@ -95,7 +94,7 @@ pub(crate) fn join_all<'s, R: Threads, B: FixedBalance>(
 }
 
 /// What the threads have given back, and one more.
-fn with_work<B: FixedBalance>(works: Works<B>, worked: Worked<B>) -> Works<B>
+fn with_work<B: FilledOnce>(works: Works<B>, worked: Worked<B>) -> Works<B>
     ensures { (f : Ground) (calls : List Call) (olds : List PassView) (old : PassView)
         → IfOk works (λ r. HaveWorked f calls olds r.0.items r.1.items)
         → IfOk worked (λ w. HasWorked f calls old w.0 w.1.items)

@@ -8,8 +8,8 @@ use super::held::Numbers;
 use super::worker::Worker;
 use crate::same::same;
 use arena::Limits;
-use dict::{ByBits, ByOrder, FixedBalance, Reply};
-use forest::{Closed, Forest, PairsFault, Pass};
+use dict::{ByBits, ByOrder, Reply};
+use forest::{Closed, FilledOnce, Forest, PairsFault, Pass};
 use std::alloc::{AllocError, Global};
 use std::process::Abort;
 use std::test::Fail;
@@ -38,7 +38,7 @@ pub(super) fn rising(alloc: Global, many: u64, step: u64) -> Result<Vec<(u64, u6
 pub(super) type Opened<B = ByOrder> = (Forest<Numbers<B>>, Vec<Pass<Numbers<B>>>);
 
 /// One that has one pass.
-pub(super) fn alone<B: FixedBalance>(
+pub(super) fn alone<B: FilledOnce>(
     opened: Result<Opened<B>, PairsFault>,
 ) -> Result<(Forest<Numbers<B>>, Pass<Numbers<B>>), Fail>
     requires { IfOk opened (λ r. AreNew r.0 r.1.items) }
@@ -53,7 +53,7 @@ pub(super) fn alone<B: FixedBalance>(
     }
 }
 
-impl<'a, B: FixedBalance> Worker<'a, B> {
+impl<'a, B: FilledOnce> Worker<'a, B> {
     /// Whether each key has its value, and the one above it has none.
     fn gets(&mut self, pairs: &[(u64, u64)]) -> bool
         ensures { self.new.forest.now ≡ self.old.forest.now }
@@ -81,7 +81,7 @@ impl<'a, B: FixedBalance> Worker<'a, B> {
 }
 
 /// A dictionary begins with these pairs, and a pass that gets them has its whole share.
-fn begun<B: FixedBalance>(
+fn begun<B: FilledOnce>(
     rt: &impl Abort,
     alloc: Global,
     pairs: &[(u64, u64)],
@@ -96,7 +96,7 @@ fn begun<B: FixedBalance>(
 
 /// What was closed is renewed, and its pass puts in a key for each three nodes of its share, and
 /// no more.
-fn goes_on<B: FixedBalance>(
+fn goes_on<B: FilledOnce>(
     rt: &impl Abort,
     alloc: Global,
     closed: &Closed<Numbers<B>>,
@@ -118,7 +118,7 @@ fn goes_on<B: FixedBalance>(
 }
 
 /// A large dictionary of this shape begins with pairs whose keys are so far apart.
-fn many_are_right<B: FixedBalance>(rt: &impl Abort, alloc: Global, step: u64) -> Result<(), Fail> {
+fn many_are_right<B: FilledOnce>(rt: &impl Abort, alloc: Global, step: u64) -> Result<(), Fail> {
     let pairs = rising(alloc, MANY, step)?;
     let closed = begun::<B>(rt, alloc, &pairs)?;
     let Ok(left) = closed.pairs(alloc) else {

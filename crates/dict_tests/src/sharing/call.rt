@@ -3,8 +3,8 @@
 ghost use Rattle.ordered_map.specs.Requests.{AsksForFew};
 ghost use Rattle.forest.specs.Passes.{IsOf};
 
-use dict::{Dict, FixedBalance, Reply, Request, WordKey, WordValue};
-use forest::{Forest, OrderFault, Pass, UpdateFault};
+use dict::{Dict, Reply, Request, WordKey, WordValue};
+use forest::{FilledOnce, Forest, OrderFault, Pass, UpdateFault};
 use std::alloc::Global;
 
 /// No range asks for more pairs.
@@ -59,7 +59,7 @@ impl<K: WordKey, V: WordValue> Call<K, V> {
     }
 
     /// Makes it, all at once.
-    pub(super) fn make<B: FixedBalance>(
+    pub(super) fn make<B: FilledOnce>(
         self,
         alloc: Global,
         forest: &Forest<Dict<K, V, B>>,
@@ -121,7 +121,7 @@ fn found_told<K: WordKey, V: WordValue>(told: Result<Option<(K, V)>, OrderFault>
     }
 }
 
-fn range<K: WordKey, V: WordValue, B: FixedBalance>(
+fn range<K: WordKey, V: WordValue, B: FilledOnce>(
     alloc: Global,
     forest: &Forest<Dict<K, V, B>>,
     pass: &mut Pass<Dict<K, V, B>>,

@@ -4,14 +4,14 @@ use super::held::Numbers;
 use super::{TRIES, limits};
 use crate::same::same;
 use arena::Limits;
-use dict::{ByBits, ByOrder, FixedBalance};
-use forest::{Forest, PairsFault};
+use dict::{ByBits, ByOrder};
+use forest::{FilledOnce, Forest, PairsFault};
 use std::alloc::Global;
 use std::process::Abort;
 use std::test::Fail;
 
 /// Why no dictionary of this shape begins with these pairs: none, if one does.
-fn fault<B: FixedBalance>(
+fn fault<B: FilledOnce>(
     alloc: Global,
     limits: Limits,
     pairs: &[(u64, u64)],
@@ -55,7 +55,7 @@ const BAD: [Limits; 6] = [
 ];
 
 /// Bad limits are told, and where the keys fall. If both are wrong, it is the limits.
-fn are_told<B: FixedBalance>(rt: &impl Abort, alloc: Global) {
+fn are_told<B: FilledOnce>(rt: &impl Abort, alloc: Global) {
     for (pairs, place) in FALLS {
         let order = Some(PairsFault::Order { place });
         same(rt, fault::<B>(alloc, GOOD, pairs), order);
@@ -97,7 +97,7 @@ const LEAVES: u64 = 65;
 
 /// Beside these shares there is room for 32 nodes, and so for all of these pairs but the last;
 /// beside the largest for none.
-fn are_too_many<B: FixedBalance>(
+fn are_too_many<B: FilledOnce>(
     rt: &impl Abort,
     alloc: Global,
     pairs: &[(u64, u64)],

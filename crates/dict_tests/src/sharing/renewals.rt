@@ -10,8 +10,8 @@ use super::threads::{part, stirred};
 use super::worker::Worker;
 use super::{closed, limits};
 use arena::Limits;
-use dict::{ByBits, ByOrder, FixedBalance, Reply};
-use forest::{Closed, Forest, Pass};
+use dict::{ByBits, ByOrder, Reply};
+use forest::{Closed, FilledOnce, Forest, Pass};
 use std::alloc::Global;
 use std::process::Abort;
 use std::test::Fail;
@@ -103,7 +103,7 @@ fn drawn(number: u64) -> Call<u64, u64> {
     }
 }
 
-impl<'a, B: FixedBalance> Worker<'a, B> {
+impl<'a, B: FilledOnce> Worker<'a, B> {
     /// Makes an edit, and answers by how much the pairs have become more: none, if it was refused.
     fn made(&mut self, edit: Call<u64, u64>) -> Option<Tally>
         ensures { self.new.forest.now ≡ self.old.forest.now }
@@ -143,7 +143,7 @@ impl<'a, B: FixedBalance> Worker<'a, B> {
 }
 
 /// The same of a thread, with its pass.
-fn work<B: FixedBalance>(
+fn work<B: FilledOnce>(
     alloc: Global,
     forest: &Forest<Numbers<B>>,
     time: u64,
@@ -176,7 +176,7 @@ fn next_limits(time: u64) -> Limits {
 }
 
 /// The next dictionary, of which a pass has found just these pairs.
-fn next<B: FixedBalance>(
+fn next<B: FilledOnce>(
     rt: &impl Abort,
     alloc: Global,
     closed: &Closed<Numbers<B>>,
@@ -199,7 +199,7 @@ fn next<B: FixedBalance>(
 
 /// The passes work, each in a thread of its own, on a dictionary that began with these pairs. Those
 /// that are left are what they say, and the next dictionary begins with them.
-fn renewed<R: Threads + Sync + Abort, B: FixedBalance + Send + Sync>(
+fn renewed<R: Threads + Sync + Abort, B: FilledOnce + Send + Sync>(
     rt: &R,
     alloc: Global,
     opened: Opened<B>,
@@ -224,7 +224,7 @@ fn renewed<R: Threads + Sync + Abort, B: FixedBalance + Send + Sync>(
 }
 
 /// Threads work on a dictionary of this shape, which is renewed again and again.
-fn renewals_are_right<R: Threads + Sync + Abort, B: FixedBalance + Send + Sync>(
+fn renewals_are_right<R: Threads + Sync + Abort, B: FilledOnce + Send + Sync>(
     rt: &R,
     alloc: Global,
 ) -> Result<(), Fail> {

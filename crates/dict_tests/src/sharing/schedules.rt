@@ -3,7 +3,7 @@ ghost use Rattle.std.specs.Prelude.{◌≡◌};
 
 use super::call::Call::{Insert, PopFirst};
 use super::worker::{Out, Worker};
-use dict::FixedBalance;
+use forest::FilledOnce;
 
 /// How many jobs a thread puts in in a round: so few that its share lasts, with all the tries that
 /// it loses to the other.
@@ -15,7 +15,7 @@ const FILLING: u64 = 50;
 /// How many jobs wait once both threads have done so.
 pub(super) const WAITING: usize = 2 * (JOBS * FILLING) as usize;
 
-impl<'a, B: FixedBalance> Worker<'a, B> {
+impl<'a, B: FilledOnce> Worker<'a, B> {
     /// Puts a job in, and, once enough wait, takes the first one out: there is one, since no thread
     /// has taken out more than it has put in.
     fn schedule(&mut self, job: u64) -> Out

@@ -12,8 +12,8 @@ use super::held::Numbers;
 use super::schedules::WAITING;
 use super::worker::{MOST_ASKS, Out, Worker, weight};
 use super::{end, limits};
-use dict::{ByBits, ByOrder, FixedBalance, Reply};
-use forest::{Forest, Pass};
+use dict::{ByBits, ByOrder, Reply};
+use forest::{FilledOnce, Forest, Pass};
 use std::alloc::{AllocError, Global};
 use std::process::Abort;
 use std::test::Fail;
@@ -135,7 +135,7 @@ fn pop_of(number: u64) -> Call<u64, u64> {
     if number % 2 == 0 { PopFirst } else { PopLast }
 }
 
-impl<'a, B: FixedBalance> Worker<'a, B> {
+impl<'a, B: FilledOnce> Worker<'a, B> {
     /// Makes an edit.
     fn edit(&mut self, edit: Call<u64, u64>) -> Out
         ensures { self.new.forest.now ≡ self.old.forest.now }
@@ -230,7 +230,7 @@ impl<'a, B: FixedBalance> Worker<'a, B> {
 }
 
 /// The rounds of a thread.
-fn make_rounds<B: FixedBalance>(
+fn make_rounds<B: FilledOnce>(
     alloc: Global,
     forest: &Forest<Numbers<B>>,
     work: Work,
@@ -248,7 +248,7 @@ fn make_rounds<B: FixedBalance>(
 }
 
 /// The passes, and what came out.
-pub(super) fn part<B: FixedBalance, T: Drop>(
+pub(super) fn part<B: FilledOnce, T: Drop>(
     alloc: Global,
     forest: &Forest<Numbers<B>>,
     workers: Vec<(Pass<Numbers<B>>, T)>,
@@ -399,7 +399,7 @@ fn are_steps(values: &[u64], (many, step): (usize, u64)) -> bool {
 }
 
 /// The passes work, each in a thread of its own.
-fn worked<R: Threads + Sync, B: FixedBalance + Send + Sync>(
+fn worked<R: Threads + Sync, B: FilledOnce + Send + Sync>(
     rt: &R,
     alloc: Global,
     forest: &Forest<Numbers<B>>,
@@ -415,7 +415,7 @@ fn worked<R: Threads + Sync, B: FixedBalance + Send + Sync>(
 
 /// This many threads do these works, one after the other, and then the forest is closed. The result
 /// is that of the second.
-fn raced<R: Threads + Sync, B: FixedBalance + Send + Sync>(
+fn raced<R: Threads + Sync, B: FilledOnce + Send + Sync>(
     rt: &R,
     alloc: Global,
     threads: u32,
@@ -484,7 +484,7 @@ const RACES: [Race; 7] = [
 const SCHEDULE: Race = (2, [NOTHING, Work::Schedule], Left::Many(WAITING), Come::Sum);
 
 /// Each of these races on a dictionary of this kind is as it is to be.
-fn races_are_right<R: Threads + Sync + Abort, B: FixedBalance + Send + Sync>(
+fn races_are_right<R: Threads + Sync + Abort, B: FilledOnce + Send + Sync>(
     rt: &R,
     alloc: Global,
     races: &[Race],

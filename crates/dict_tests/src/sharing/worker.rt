@@ -4,8 +4,8 @@ ghost use Rattle.forest.specs.Passes.{IsOf};
 
 use super::call::Call::{self, Delete, DeleteIf, Insert, InsertNew, PopFirst, PopLast, ReplaceIf};
 use super::held::Numbers;
-use dict::{FixedBalance, Reply};
-use forest::{Forest, Pass};
+use dict::Reply;
+use forest::{FilledOnce, Forest, Pass};
 use std::alloc::Global;
 
 /// How often a call that was contended is asked again.
@@ -44,14 +44,14 @@ pub(super) fn weight(key: u64, value: Option<u64>) -> u64 {
 
 /// A pass, and what each of its calls needs besides.
 #[derive(Drop)]
-pub(super) struct Worker<'a, B: FixedBalance> {
+pub(super) struct Worker<'a, B: FilledOnce> {
     alloc: Global,
     pub(super) forest: &'a Forest<Numbers<B>>,
     pub(super) pass: Pass<Numbers<B>>,
     ghost of: { IsOf forest.now pass },
 }
 
-impl<'a, B: FixedBalance> Worker<'a, B> {
+impl<'a, B: FilledOnce> Worker<'a, B> {
     pub(super) fn new(
         alloc: Global,
         forest: &'a Forest<Numbers<B>>,

@@ -20,13 +20,13 @@ ghost use Rattle.forest.specs.StraightCalls.{CallHasEnded, SeatCallBegins};
 use crate::balance::in_trie;
 use crate::straight::hand::Hand;
 use crate::straight::{ordered_read, update};
+use crate::table_shape::Upkeep;
 use crate::view::SeatView;
 use arena::{Share, Side};
 use atomic_table::Seat;
 use dict::{Dict, DictRun, Reply, Request, WordKey, WordValue, of_neighbour, of_range, of_update};
 use order::{Neighbour, Range, RangeRun};
 use std::alloc::Global;
-use template::FixedBalance;
 use tree::{EditGoal, EditRule, KeyEdit};
 
 /// The most forks that there are as a rule from the root to a leaf.
@@ -34,15 +34,14 @@ const DEEP: usize = 32;
 
 /// Makes an edit with `tries` tries and this share, and returns what is left of that.
 #[inline(always)]
-pub(crate) fn make<K: WordKey, V: WordValue, B: FixedBalance, G: EditGoal, R: EditRule>(
+pub(crate) fn make<K: WordKey, V: WordValue, B: Upkeep, G: EditGoal, R: EditRule>(
     hand: Hand<Dict<K, V, B>>,
     seat: &mut Seat<u8, SeatView>,
     share: Share,
     tries: u32,
     edit: KeyEdit<G, R>,
 ) -> (Reply<K, V>, Share)
-    requires table { IsAt hand seat.old }
-    requires mode { hand.layout.now.mode ≡ map_mode (B.trie B.the) }
+    requires table { IsAt (map_mode (B.trie B.the)) B.lasts hand seat.old }
     requires small { (0 < tries) × IsSmallCall (edit_call G.goal R.rule edit) }
     requires in_trie { G.trie edit.goal ≡ B.trie B.the }
     requires begins { (c : Call) × IsCallOf hand c
@@ -87,7 +86,7 @@ fn range_run(alloc: Global, low: u64, high: u64, most: usize, tries: u32, trie: 
 /// Looks with so many tries for the pair beside a key on this side, and takes nothing of a share. What
 /// it keeps grows with this allocator.
 #[inline(always)]
-fn neighbour<K: WordKey, V: WordValue, B: FixedBalance>(
+fn neighbour<K: WordKey, V: WordValue, B: Upkeep>(
     hand: Hand<Dict<K, V, B>>,
     seat: &mut Seat<u8, SeatView>,
     alloc: Global,
@@ -95,8 +94,7 @@ fn neighbour<K: WordKey, V: WordValue, B: FixedBalance>(
     key: K,
     side: Side,
 ) -> Reply<K, V>
-    requires table { IsAt hand seat.old }
-    requires mode { hand.layout.now.mode ≡ map_mode (B.trie B.the) }
+    requires table { IsAt (map_mode (B.trie B.the)) B.lasts hand seat.old }
     requires tries { 0 < tries }
     requires begins { (c : Call) × (share : Remaining) × IsCallOf hand c
         × SeatCallBegins K.is_valid K.word_of V.is_valid V.word_of (B.trie B.the) c
@@ -122,15 +120,14 @@ fn neighbour<K: WordKey, V: WordValue, B: FixedBalance>(
 /// Makes an ordered read with `tries` tries, which takes nothing of a share. What it keeps grows
 /// with this allocator.
 #[inline(always)]
-pub(crate) fn read<K: WordKey, V: WordValue, B: FixedBalance>(
+pub(crate) fn read<K: WordKey, V: WordValue, B: Upkeep>(
     hand: Hand<Dict<K, V, B>>,
     seat: &mut Seat<u8, SeatView>,
     alloc: Global,
     tries: u32,
     request: Request<K, V>,
 ) -> Reply<K, V>
-    requires table { IsAt hand seat.old }
-    requires mode { hand.layout.now.mode ≡ map_mode (B.trie B.the) }
+    requires table { IsAt (map_mode (B.trie B.the)) B.lasts hand seat.old }
     requires ordered { (0 < tries) × KeepsLists (as_map_call K.word_of V.word_of request) }
     requires begins { (c : Call) × (share : Remaining) × IsCallOf hand c
         × SeatCallBegins K.is_valid K.word_of V.is_valid V.word_of (B.trie B.the) c

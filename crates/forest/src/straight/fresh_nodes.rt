@@ -11,8 +11,9 @@ ghost use Rattle.edits.specs.declared.update.Next.{Next};
 use crate::call_machine::CallMachine;
 use crate::straight::hand::Hand;
 use crate::straight::step::step_from;
+use crate::table_shape::TableShape;
 use crate::view::SeatView;
-use arena::{Access, Kind, NodeNo, NodeWord, SettledPart, Shape, Side, Slot, Step, Word};
+use arena::{Access, Kind, NodeNo, NodeWord, SettledPart, Side, Slot, Step, Word};
 use atomic_table::Seat;
 use edits::{Edit, Next, Nth, Piece, Stop, UpdateRun};
 use template::Found;
@@ -40,7 +41,7 @@ struct FreshNode<'a> {
 
 /// Stores what a word of the fresh node of this place is to hold.
 #[inline(always)]
-fn put<S: Shape, M: CallMachine<S>, E: Edit + Copy>(
+fn put<S: TableShape, M: CallMachine<S>, E: Edit + Copy>(
     hand: Hand<S>,
     seat: &mut Seat<u8, SeatView>,
     run: &UpdateRun<E, ()>,
@@ -48,7 +49,7 @@ fn put<S: Shape, M: CallMachine<S>, E: Edit + Copy>(
     part: NodeWord,
     value: u64,
 )
-    requires table { IsAt hand seat.old }
+    requires table { IsAt S.mode S.lasts hand seat.old }
     requires fresh { IsFreshPiece (hand_slots hand) E.means run.now node.found.now
         node.nth node.start node.piece.now }
     requires value { value ≡ word_of node.piece.now part }
@@ -66,14 +67,14 @@ fn put<S: Shape, M: CallMachine<S>, E: Edit + Copy>(
 
 /// Fills a word of the fresh node of this place.
 #[inline(always)]
-fn fill_word<S: Shape, M: CallMachine<S>, E: Edit + Copy>(
+fn fill_word<S: TableShape, M: CallMachine<S>, E: Edit + Copy>(
     hand: Hand<S>,
     seat: &mut Seat<u8, SeatView>,
     run: &UpdateRun<E, ()>,
     node: FreshNode<'_>,
     part: NodeWord,
 )
-    requires table { IsAt hand seat.old }
+    requires table { IsAt S.mode S.lasts hand seat.old }
     requires fresh { IsFreshPiece (hand_slots hand) E.means run.now node.found.now
         node.nth node.start node.piece.now }
     requires fills { StandsToFill S.Shape M.Machine M.left_dealt E.means hand node.found.now
@@ -90,14 +91,14 @@ fn fill_word<S: Shape, M: CallMachine<S>, E: Edit + Copy>(
 /// Fills a word of the fresh node of this place, and returns the word that is filled next, if one
 /// is.
 #[inline(always)]
-fn fill<S: Shape, M: CallMachine<S>, E: Edit + Copy>(
+fn fill<S: TableShape, M: CallMachine<S>, E: Edit + Copy>(
     hand: Hand<S>,
     seat: &mut Seat<u8, SeatView>,
     run: &UpdateRun<E, ()>,
     node: FreshNode<'_>,
     part: NodeWord,
 ) -> Option<NodeWord>
-    requires table { IsAt hand seat.old }
+    requires table { IsAt S.mode S.lasts hand seat.old }
     requires fresh { IsFreshPiece (hand_slots hand) E.means run.now node.found.now
         node.nth node.start node.piece.now }
     requires fills { StandsToFill S.Shape M.Machine M.left_dealt E.means hand node.found.now
@@ -115,7 +116,7 @@ fn fill<S: Shape, M: CallMachine<S>, E: Edit + Copy>(
 /// Fills the high half of the value in this slot, if that is not 0. With it and without it the same
 /// comes next: so it has a function of its own, behind which that is asked once.
 #[inline(always)]
-fn fill_high<S: Shape, M: CallMachine<S>, E: Edit + Copy>(
+fn fill_high<S: TableShape, M: CallMachine<S>, E: Edit + Copy>(
     hand: Hand<S>,
     seat: &mut Seat<u8, SeatView>,
     run: &UpdateRun<E, ()>,
@@ -123,7 +124,7 @@ fn fill_high<S: Shape, M: CallMachine<S>, E: Edit + Copy>(
     slot: Slot,
     high: u64,
 )
-    requires table { IsAt hand seat.old }
+    requires table { IsAt S.mode S.lasts hand seat.old }
     requires fresh { IsFreshPiece (hand_slots hand) E.means run.now node.found.now
         node.nth node.start node.piece.now }
     requires value { high ≡ word_of node.piece.now (NodeWord.Settled (SettledPart.High slot)) }
@@ -145,14 +146,14 @@ fn fill_high<S: Shape, M: CallMachine<S>, E: Edit + Copy>(
 /// Fills the pair in this slot of a leaf: its key, and what of its value is to be filled. Where its
 /// caller knows the slot, so does the compiler.
 #[inline(always)]
-fn fill_pair<S: Shape, M: CallMachine<S>, E: Edit + Copy>(
+fn fill_pair<S: TableShape, M: CallMachine<S>, E: Edit + Copy>(
     hand: Hand<S>,
     seat: &mut Seat<u8, SeatView>,
     run: &UpdateRun<E, ()>,
     node: FreshNode<'_>,
     slot: Slot,
 ) -> Option<NodeWord>
-    requires table { IsAt hand seat.old }
+    requires table { IsAt S.mode S.lasts hand seat.old }
     requires fresh { IsFreshPiece (hand_slots hand) E.means run.now node.found.now
         node.nth node.start node.piece.now }
     requires fills { StandsToFill S.Shape M.Machine M.left_dealt E.means hand node.found.now
@@ -176,14 +177,14 @@ fn fill_pair<S: Shape, M: CallMachine<S>, E: Edit + Copy>(
 
 /// Fills the count of the pairs, where that is the word that is filled next.
 #[inline(always)]
-fn fill_more<S: Shape, M: CallMachine<S>, E: Edit + Copy>(
+fn fill_more<S: TableShape, M: CallMachine<S>, E: Edit + Copy>(
     hand: Hand<S>,
     seat: &mut Seat<u8, SeatView>,
     run: &UpdateRun<E, ()>,
     node: FreshNode<'_>,
     next: Option<NodeWord>,
 ) -> Option<NodeWord>
-    requires table { IsAt hand seat.old }
+    requires table { IsAt S.mode S.lasts hand seat.old }
     requires fresh { IsFreshPiece (hand_slots hand) E.means run.now node.found.now
         node.nth node.start node.piece.now }
     requires fills { StandsToFill S.Shape M.Machine M.left_dealt E.means hand node.found.now
@@ -218,14 +219,14 @@ fn is_pair_next(piece: &Piece, next: Option<NodeWord>, slot: Slot) -> bool
 /// Fills the last two pairs of a leaf, as many as there are, where the key of the third is the word
 /// that is filled next.
 #[inline(always)]
-fn fill_last_pairs<S: Shape, M: CallMachine<S>, E: Edit + Copy>(
+fn fill_last_pairs<S: TableShape, M: CallMachine<S>, E: Edit + Copy>(
     hand: Hand<S>,
     seat: &mut Seat<u8, SeatView>,
     run: &UpdateRun<E, ()>,
     node: FreshNode<'_>,
     next: Option<NodeWord>,
 ) -> Option<NodeWord>
-    requires table { IsAt hand seat.old }
+    requires table { IsAt S.mode S.lasts hand seat.old }
     requires fresh { IsFreshPiece (hand_slots hand) E.means run.now node.found.now
         node.nth node.start node.piece.now }
     requires fills { StandsToFill S.Shape M.Machine M.left_dealt E.means hand node.found.now
@@ -247,14 +248,14 @@ fn fill_last_pairs<S: Shape, M: CallMachine<S>, E: Edit + Copy>(
 /// Fills the pairs of a leaf, where the key of the first is the word that is filled next. It ends
 /// at the first slot that does not come next, so that the compiler asks once behind each pair.
 #[inline(always)]
-fn fill_pairs<S: Shape, M: CallMachine<S>, E: Edit + Copy>(
+fn fill_pairs<S: TableShape, M: CallMachine<S>, E: Edit + Copy>(
     hand: Hand<S>,
     seat: &mut Seat<u8, SeatView>,
     run: &UpdateRun<E, ()>,
     node: FreshNode<'_>,
     next: Option<NodeWord>,
 ) -> Option<NodeWord>
-    requires table { IsAt hand seat.old }
+    requires table { IsAt S.mode S.lasts hand seat.old }
     requires fresh { IsFreshPiece (hand_slots hand) E.means run.now node.found.now
         node.nth node.start node.piece.now }
     requires fills { StandsToFill S.Shape M.Machine M.left_dealt E.means hand node.found.now
@@ -276,13 +277,13 @@ fn fill_pairs<S: Shape, M: CallMachine<S>, E: Edit + Copy>(
 
 /// Fills a fresh leaf.
 #[inline(always)]
-fn fill_leaf<S: Shape, M: CallMachine<S>, E: Edit + Copy>(
+fn fill_leaf<S: TableShape, M: CallMachine<S>, E: Edit + Copy>(
     hand: Hand<S>,
     seat: &mut Seat<u8, SeatView>,
     run: &UpdateRun<E, ()>,
     node: FreshNode<'_>,
 )
-    requires table { IsAt hand seat.old }
+    requires table { IsAt S.mode S.lasts hand seat.old }
     requires fresh { IsFreshPiece (hand_slots hand) E.means run.now node.found.now
         node.nth node.start node.piece.now }
     requires fills { StandsToFill S.Shape M.Machine M.left_dealt E.means hand node.found.now
@@ -303,13 +304,13 @@ fn fill_leaf<S: Shape, M: CallMachine<S>, E: Edit + Copy>(
 
 /// Fills a fresh fork: its head, its key and its children.
 #[inline(always)]
-fn fill_fork<S: Shape, M: CallMachine<S>, E: Edit + Copy>(
+fn fill_fork<S: TableShape, M: CallMachine<S>, E: Edit + Copy>(
     hand: Hand<S>,
     seat: &mut Seat<u8, SeatView>,
     run: &UpdateRun<E, ()>,
     node: FreshNode<'_>,
 )
-    requires table { IsAt hand seat.old }
+    requires table { IsAt S.mode S.lasts hand seat.old }
     requires fresh { IsFreshPiece (hand_slots hand) E.means run.now node.found.now
         node.nth node.start node.piece.now }
     requires fills { StandsToFill S.Shape M.Machine M.left_dealt E.means hand node.found.now
@@ -329,13 +330,13 @@ fn fill_fork<S: Shape, M: CallMachine<S>, E: Edit + Copy>(
 
 /// Fills all words of a fresh node, by what it is: so the compiler asks that once.
 #[inline(always)]
-fn fill_words<S: Shape, M: CallMachine<S>, E: Edit + Copy>(
+fn fill_words<S: TableShape, M: CallMachine<S>, E: Edit + Copy>(
     hand: Hand<S>,
     seat: &mut Seat<u8, SeatView>,
     run: &UpdateRun<E, ()>,
     node: FreshNode<'_>,
 )
-    requires table { IsAt hand seat.old }
+    requires table { IsAt S.mode S.lasts hand seat.old }
     requires fresh { IsFreshPiece (hand_slots hand) E.means run.now node.found.now
         node.nth node.start node.piece.now }
     requires fills { StandsToFill S.Shape M.Machine M.left_dealt E.means hand node.found.now
@@ -354,14 +355,14 @@ fn fill_words<S: Shape, M: CallMachine<S>, E: Edit + Copy>(
 
 /// Fills the fresh node of this place.
 #[inline(always)]
-pub(crate) fn fill_node<S: Shape, M: CallMachine<S>, E: Edit + Copy>(
+pub(crate) fn fill_node<S: TableShape, M: CallMachine<S>, E: Edit + Copy>(
     hand: Hand<S>,
     seat: &mut Seat<u8, SeatView>,
     run: &mut UpdateRun<E, ()>,
     found: &Found,
     nth: Nth,
 ) -> Result<Next, Stop>
-    requires table { IsAt hand seat.old }
+    requires table { IsAt S.mode S.lasts hand seat.old }
     requires tries { StandsToTry S.Shape M.Machine M.left_dealt E.means hand found.now
         seat.old run.old (Ok (Next.Fill nth)) }
     ensures goes_on { TryGoesOn S.Shape M.Machine M.left_dealt E.means hand.entry found.now

@@ -18,8 +18,9 @@ use crate::straight::llx::{load, look};
 use crate::straight::node::{Reached, descend};
 use crate::straight::resume;
 use crate::straight::step::step;
+use crate::table_shape::TableShape;
 use crate::view::SeatView;
-use arena::{Kind, NodeNo, NodeWord, ScxNo, ScxWord, SettledPart, Shape, Side, Step, Word};
+use arena::{Kind, NodeNo, NodeWord, ScxNo, ScxWord, SettledPart, Side, Step, Word};
 use atomic_table::Seat;
 use edits::{Edit, UpdateAt, UpdateRun, Updated};
 use prims::{LlxAt, LlxRun};
@@ -48,14 +49,14 @@ fn again(way: Way, goal: Goal, head: u64, marked: bool, scx: ScxNo) -> (UpdateAt
 /// Looks at the guard of an edit, between the loads of the root's head and of its child, and keeps
 /// its snapshot. If something is in the way, its machine continues from there.
 #[inline(always)]
-fn pass<S: Shape, M: CallMachine<S>, E: Edit + Copy>(
+fn pass<S: TableShape, M: CallMachine<S>, E: Edit + Copy>(
     hand: Hand<S>,
     seat: &mut Seat<u8, SeatView>,
     run: &mut UpdateRun<E, ()>,
     way: Way,
     goal: Goal,
 ) -> Result<Reached, Updated>
-    requires table { IsAt hand seat.old }
+    requires table { IsAt S.mode S.lasts hand seat.old }
     requires guard { E.means.guard run.old.edit ≡ true }
     requires goes { (way ≡ E.means.way run.old.edit) × (goal ≡ E.means.goal run.old.edit) }
     requires begins { (u : Updater (hand_calls S.Shape M.Machine M.left_dealt hand) E.means)
@@ -88,14 +89,14 @@ fn pass<S: Shape, M: CallMachine<S>, E: Edit + Copy>(
 /// The place from which an update walks, behind its guard if it has one. If something is in the way
 /// there, its machine continues, and it has answered.
 #[inline(always)]
-pub(crate) fn begin<S: Shape, M: CallMachine<S>, E: Edit + Copy>(
+pub(crate) fn begin<S: TableShape, M: CallMachine<S>, E: Edit + Copy>(
     hand: Hand<S>,
     seat: &mut Seat<u8, SeatView>,
     run: &mut UpdateRun<E, ()>,
     way: Way,
     goal: Goal,
 ) -> Result<Reached, Updated>
-    requires table { IsAt hand seat.old }
+    requires table { IsAt S.mode S.lasts hand seat.old }
     requires goes { (way ≡ E.means.way run.old.edit) × (goal ≡ E.means.goal run.old.edit) }
     requires begins { (u : Updater (hand_calls S.Shape M.Machine M.left_dealt hand) E.means)
         × UpdaterBegins u seat.old.me.0.passes run.old }

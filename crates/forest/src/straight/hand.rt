@@ -1,22 +1,22 @@
 //! What the steps of a call have in hand.
 ghost use Rattle.std.specs.Prelude.{◌≡◌, ◌<◌, ⊤};
 ghost use Rattle.arena.specs.Layout.{all_nodes, all_scx, node_size, IsWord};
-ghost use Rattle.forest.specs.TableRule.{IsTableOf};
 
+use crate::table_plan::TablePlan;
+use crate::table_shape::TableShape;
 use crate::words::Words;
-use arena::{Layout, NodeNo, ScxNo, Shape, Word};
+use arena::{NodeNo, ScxNo, Shape, Word};
 use std::alloc::AllocError;
 
-/// Words with their layout, and the number of the call that makes steps on them. Loops copy the
-/// layout first: only of its own copy does the compiler know that no step changes it.
+/// Words with the plan of their table, and the number of the call that makes steps on them. Loops
+/// copy the plan first: only of its own copy does the compiler know that no step changes it.
 pub(crate) struct Hand<'a, S: Shape> {
     pub(crate) words: &'a Words<S>,
-    pub(crate) layout: &'a Layout,
+    pub(crate) plan: &'a TablePlan,
     pub(crate) number: u64,
     /// How many words a node has: where the compiler knows the shape, it knows this.
     pub(crate) size: usize,
-    ghost of_table: { IsTableOf words.now.table.shared.table_id words.now.table.shared.key layout.now },
-    ghost of_size: { size ≡ node_size layout.now.mode },
+    ghost of_size: { size ≡ node_size plan.now.layout.mode },
 }
 
 impl<'a, S: Shape> Clone for Hand<'a, S> {
@@ -31,35 +31,52 @@ impl<'a, S: Shape> Clone for Hand<'a, S> {
 
 impl<'a, S: Shape> Copy for Hand<'a, S> {}
 
-impl<'a, S: Shape> Hand<'a, S> {
-    ghost use Rattle.forest.specs.Hands.{hand_slots, names};
+impl<'a, S: TableShape> Hand<'a, S> {
+    ghost use Rattle.forest.specs.Hands.{IsHandOf, hand_slots, names};
     ghost use Rattle.forest.specs.Slotted.{node_begins, scx_begins, word_begins};
 
-    /// Where the words of a node begin.
+    /// Where the words of a node begin: in the slot that its name says.
     #[inline(always)]
     pub(crate) fn node_start(self, node: NodeNo) -> usize
-        requires { node.0 < all_nodes (names self) }
+        requires table { IsHandOf S.mode S.lasts self }
+        requires node { node.0 < all_nodes (names self) }
         ensures start { result ≡ node_begins (hand_slots self.entry) node }
-        ensures fits { result < 4294967296 }
+        ensures fits { result < 1099511627776 }
     {
-        self.layout.node_start(self.size, node)
+        let slot = if S::lasts() {
+            node.0 & self.plan.node_mask
+        } else {
+            node.0
+        };
+        self.size * slot as usize
     }
 
-    /// Where the words of an SCX-record begin.
+    /// Where the words of an SCX-record begin: in the slot that its name says.
     #[inline(always)]
     pub(crate) fn scx_start(self, scx: ScxNo) -> usize
-        requires { scx.0 < all_scx (names self) }
-        ensures { result ≡ scx_begins (hand_slots self.entry) scx }
+        requires table { IsHandOf S.mode S.lasts self }
+        requires scx { scx.0 < all_scx (names self) }
+        ensures start { result ≡ scx_begins (hand_slots self.entry) scx }
+        ensures fits { result < 1099511627776 }
     {
-        self.layout.scx_start(scx)
+        let slot = if S::lasts() {
+            scx.0 & self.plan.scx_mask
+        } else {
+            scx.0
+        };
+        self.plan.layout.scx_start(ScxNo(0)) + 14 * slot as usize
     }
 
     /// Where the words of the node or of the SCX-record begin that has this word.
     #[inline(always)]
     pub(crate) fn start_of(self, word: Word) -> usize
-        requires { IsWord (names self) word }
+        requires table { IsHandOf S.mode S.lasts self }
+        requires word { IsWord (names self) word }
         ensures { result ≡ word_begins (hand_slots self.entry) word }
     {
-        self.layout.start_of(self.size, word)
+        match word {
+            Word::Node(node, _) => self.node_start(node),
+            Word::Scx(scx, _) => self.scx_start(scx),
+        }
     }
 }

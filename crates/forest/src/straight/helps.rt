@@ -13,6 +13,7 @@ ghost use Rattle.forest.specs.Slotted.{scx_begins, word_begins};
 use crate::call_machine::CallMachine;
 use crate::straight::hand::Hand;
 use crate::straight::step::step_from;
+use crate::table_shape::TableShape;
 use crate::view::SeatView;
 use arena::{
     Access, COMMITTED, Kind, MemberIndex, NodeNo, NodeWord, Plan, ScxNo, ScxWord, Shape, Step, Word,
@@ -22,7 +23,7 @@ use help::{HelpAt, HelpRun};
 
 /// Makes the step that a HELP waits for, on a word whose node or SCX-record begins there.
 #[inline(always)]
-fn act_on<S: Shape, M: CallMachine<S>, T: Shape>(
+fn act_on<S: TableShape, M: CallMachine<S>, T: Shape>(
     hand: Hand<S>,
     seat: &mut Seat<u8, SeatView>,
     start: usize,
@@ -30,7 +31,7 @@ fn act_on<S: Shape, M: CallMachine<S>, T: Shape>(
     kind: Kind,
     access: Access,
 ) -> u64
-    requires table { IsAt hand seat.old }
+    requires table { IsAt S.mode S.lasts hand seat.old }
     requires start { start ≡ word_begins (hand_slots hand) word }
     requires waits { WaitsInside (hand_calls S.Shape M.Machine M.left_dealt hand)
         (inner_help T.allows) seat.old record { kind = kind; word = word; access = access } }
@@ -43,7 +44,7 @@ fn act_on<S: Shape, M: CallMachine<S>, T: Shape>(
 
 /// Makes the step that a HELP waits for, on a word of a node.
 #[inline(always)]
-fn act<S: Shape, M: CallMachine<S>, T: Shape>(
+fn act<S: TableShape, M: CallMachine<S>, T: Shape>(
     hand: Hand<S>,
     seat: &mut Seat<u8, SeatView>,
     node: NodeNo,
@@ -51,7 +52,7 @@ fn act<S: Shape, M: CallMachine<S>, T: Shape>(
     kind: Kind,
     access: Access,
 ) -> u64
-    requires table { IsAt hand seat.old }
+    requires table { IsAt S.mode S.lasts hand seat.old }
     requires waits { WaitsInside (hand_calls S.Shape M.Machine M.left_dealt hand)
         (inner_help T.allows)
         seat.old record { kind = kind; word = Word.Node node part; access = access } }
@@ -66,14 +67,14 @@ fn act<S: Shape, M: CallMachine<S>, T: Shape>(
 
 /// Loads a settled word of the SCX-record, which begins there.
 #[inline(always)]
-fn read<S: Shape, M: CallMachine<S>, T: Shape>(
+fn read<S: TableShape, M: CallMachine<S>, T: Shape>(
     hand: Hand<S>,
     seat: &mut Seat<u8, SeatView>,
     scx: ScxNo,
     start: usize,
     part: ScxWord,
 ) -> u64
-    requires table { IsAt hand seat.old }
+    requires table { IsAt S.mode S.lasts hand seat.old }
     requires start { start ≡ scx_begins (hand_slots hand) scx }
     requires waits { WaitsInside (hand_calls S.Shape M.Machine M.left_dealt hand)
         (inner_help T.allows) seat.old (settled_load scx.0 part) }
@@ -97,14 +98,14 @@ fn is_frozen(found: u64, seen: u64, scx: ScxNo) -> bool
 /// Freezes the node of this place of an SCX-record that begins there and whose plan has been read;
 /// returns whether it is frozen.
 #[inline(always)]
-fn freeze<S: Shape, M: CallMachine<S>, T: Shape>(
+fn freeze<S: TableShape, M: CallMachine<S>, T: Shape>(
     hand: Hand<S>,
     seat: &mut Seat<u8, SeatView>,
     start: usize,
     run: &mut HelpRun,
     j: MemberIndex,
 ) -> bool
-    requires table { IsAt hand seat.old }
+    requires table { IsAt S.mode S.lasts hand seat.old }
     requires start { start ≡ scx_begins (hand_slots hand) run.old.scx }
     requires waits { (k : Helper T.allows (hand_calls S.Shape M.Machine M.left_dealt hand))
         × LoadsMember k seat.old.me.0.passes run.old j }
@@ -136,13 +137,13 @@ fn freeze<S: Shape, M: CallMachine<S>, T: Shape>(
 
 /// Freezes the nodes of an SCX-record whose plan has been read; returns whether all are frozen.
 #[inline(always)]
-fn freeze_all<S: Shape, M: CallMachine<S>, T: Shape>(
+fn freeze_all<S: TableShape, M: CallMachine<S>, T: Shape>(
     hand: Hand<S>,
     seat: &mut Seat<u8, SeatView>,
     start: usize,
     run: &mut HelpRun,
 ) -> bool
-    requires table { IsAt hand seat.old }
+    requires table { IsAt S.mode S.lasts hand seat.old }
     requires start { start ≡ scx_begins (hand_slots hand) run.old.scx }
     requires waits { (k : Helper T.allows (hand_calls S.Shape M.Machine M.left_dealt hand))
         × LoadsMember k seat.old.me.0.passes run.old MemberIndex.First }
@@ -178,13 +179,13 @@ fn freeze_all<S: Shape, M: CallMachine<S>, T: Shape>(
 
 /// Marks the node of this place, if the SCX-record, whose flag is set, finalizes it.
 #[inline(always)]
-fn mark<S: Shape, M: CallMachine<S>, T: Shape>(
+fn mark<S: TableShape, M: CallMachine<S>, T: Shape>(
     hand: Hand<S>,
     seat: &mut Seat<u8, SeatView>,
     run: &HelpRun,
     j: MemberIndex,
 )
-    requires table { IsAt hand seat.old }
+    requires table { IsAt S.mode S.lasts hand seat.old }
     requires marks { (k : Helper T.allows (hand_calls S.Shape M.Machine M.left_dealt hand))
         × HelperMarks k seat.old.me.0.passes run.now (member_index j) }
     ensures { Leads seat.old seat.new 1
@@ -201,12 +202,12 @@ fn mark<S: Shape, M: CallMachine<S>, T: Shape>(
 
 /// Marks those nodes of an SCX-record whose flag is set that it finalizes.
 #[inline(always)]
-fn mark_all<S: Shape, M: CallMachine<S>, T: Shape>(
+fn mark_all<S: TableShape, M: CallMachine<S>, T: Shape>(
     hand: Hand<S>,
     seat: &mut Seat<u8, SeatView>,
     run: &HelpRun,
 )
-    requires table { IsAt hand seat.old }
+    requires table { IsAt S.mode S.lasts hand seat.old }
     requires marks { (k : Helper T.allows (hand_calls S.Shape M.Machine M.left_dealt hand))
         × HelperMarks k seat.old.me.0.passes run.now 0 }
     ensures { Leads seat.old seat.new 4
@@ -225,13 +226,13 @@ fn mark_all<S: Shape, M: CallMachine<S>, T: Shape>(
 /// whether all are frozen. If one could not be frozen the run waits to look whether all were.
 /// Each edit `E` has its own copy, which the compiler inlines.
 #[inline(always)]
-pub(crate) fn begin<S: Shape, M: CallMachine<S>, T: Shape, E>(
+pub(crate) fn begin<S: TableShape, M: CallMachine<S>, T: Shape, E>(
     hand: Hand<S>,
     seat: &mut Seat<u8, SeatView>,
     start: usize,
     run: &mut HelpRun,
 ) -> bool
-    requires table { IsAt hand seat.old }
+    requires table { IsAt S.mode S.lasts hand seat.old }
     requires start { start ≡ scx_begins (hand_slots hand) run.old.scx }
     requires waits { (k : Helper T.allows (hand_calls S.Shape M.Machine M.left_dealt hand))
         × LoadsPlan k seat.old.me.0.passes run.old }
@@ -250,13 +251,13 @@ pub(crate) fn begin<S: Shape, M: CallMachine<S>, T: Shape, E>(
 /// Commits an SCX-record whose nodes are frozen: sets its flag, marks the nodes that it finalizes,
 /// and changes its field.
 #[inline(always)]
-pub(crate) fn commit<S: Shape, M: CallMachine<S>, T: Shape>(
+pub(crate) fn commit<S: TableShape, M: CallMachine<S>, T: Shape>(
     hand: Hand<S>,
     seat: &mut Seat<u8, SeatView>,
     start: usize,
     run: &HelpRun,
 )
-    requires table { IsAt hand seat.old }
+    requires table { IsAt S.mode S.lasts hand seat.old }
     requires start { start ≡ scx_begins (hand_slots hand) run.now.scx }
     requires waits { (k : Helper T.allows (hand_calls S.Shape M.Machine M.left_dealt hand))
         × SetsFlag k seat.old.me.0.passes run.now }
@@ -284,13 +285,13 @@ pub(crate) fn commit<S: Shape, M: CallMachine<S>, T: Shape>(
 /// HELP of an SCX-record by a run that has not begun; returns whether it has committed. If a node
 /// could not be frozen the run waits to look whether all were.
 #[inline(always)]
-pub(crate) fn call<S: Shape, M: CallMachine<S>, T: Shape>(
+pub(crate) fn call<S: TableShape, M: CallMachine<S>, T: Shape>(
     hand: Hand<S>,
     seat: &mut Seat<u8, SeatView>,
     start: usize,
     run: &mut HelpRun,
 ) -> bool
-    requires table { IsAt hand seat.old }
+    requires table { IsAt S.mode S.lasts hand seat.old }
     requires start { start ≡ scx_begins (hand_slots hand) run.old.scx }
     requires waits { (k : Helper T.allows (hand_calls S.Shape M.Machine M.left_dealt hand))
         × LoadsPlan k seat.old.me.0.passes run.old }

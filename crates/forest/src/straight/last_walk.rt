@@ -17,8 +17,9 @@ ghost use Rattle.template.specs.Walk.Steps.{room, walk_left};
 use crate::call_machine::CallMachine;
 use crate::straight::hand::Hand;
 use crate::straight::node::{Reached, descend, end_with, is_leaf, read};
+use crate::table_shape::TableShape;
 use crate::view::SeatView;
-use arena::{Head, Kind, NodeWord, SettledPart, Shape, Side, Slot};
+use arena::{Head, Kind, NodeWord, SettledPart, Side, Slot};
 use atomic_table::Seat;
 use order::LastTurns;
 use ordered_map::end_slot;
@@ -26,7 +27,7 @@ use template::{Found, Goal, Trail, WalkAt, Way};
 
 /// Ends at the pair at this end of a leaf that begins there, which is in this slot.
 #[inline(always)]
-fn end_at<S: Shape, M: CallMachine<S>>(
+fn end_at<S: TableShape, M: CallMachine<S>>(
     hand: Hand<S>,
     seat: &mut Seat<u8, SeatView>,
     way: Way,
@@ -37,7 +38,7 @@ fn end_at<S: Shape, M: CallMachine<S>>(
     more: u64,
     slot: Slot,
 ) -> Found
-    requires table { IsAt hand seat.old }
+    requires table { IsAt S.mode S.lasts hand seat.old }
     requires start { start ≡ node_begins (hand_slots hand) trail.node }
     requires slot { slot ≡ end_slot side more }
     requires told { HasWalked S.Shape M.Machine M.left_dealt hand seat.old
@@ -56,7 +57,7 @@ fn end_at<S: Shape, M: CallMachine<S>>(
 /// Ends at the pair at this end of a leaf that begins there. The first slot has places apart from
 /// those of the others.
 #[inline(always)]
-fn end_at_side<S: Shape, M: CallMachine<S>>(
+fn end_at_side<S: TableShape, M: CallMachine<S>>(
     hand: Hand<S>,
     seat: &mut Seat<u8, SeatView>,
     way: Way,
@@ -66,7 +67,7 @@ fn end_at_side<S: Shape, M: CallMachine<S>>(
     head: Head,
     more: u64,
 ) -> Found
-    requires table { IsAt hand seat.old }
+    requires table { IsAt S.mode S.lasts hand seat.old }
     requires start { start ≡ node_begins (hand_slots hand) trail.node }
     requires told { HasWalked S.Shape M.Machine M.left_dealt hand seat.old
         (way_at way (Goal.End side) trail (WalkAt.More head)) more }
@@ -86,7 +87,7 @@ fn end_at_side<S: Shape, M: CallMachine<S>>(
 /// Ends at a leaf that begins there, of a walk to this end: at the pair there, or at once where it
 /// is above all keys.
 #[inline(always)]
-fn end_last<S: Shape, M: CallMachine<S>>(
+fn end_last<S: TableShape, M: CallMachine<S>>(
     hand: Hand<S>,
     seat: &mut Seat<u8, SeatView>,
     way: Way,
@@ -96,7 +97,7 @@ fn end_last<S: Shape, M: CallMachine<S>>(
     at: WalkAt,
     word: u64,
 ) -> Found
-    requires table { IsAt hand seat.old }
+    requires table { IsAt S.mode S.lasts hand seat.old }
     requires stands { AsksHead (hand_slots hand) trail at start }
     requires leaf { (head_of word).leaf ≡ true }
     requires told { HasWalked S.Shape M.Machine M.left_dealt hand seat.old
@@ -124,7 +125,7 @@ fn end_last<S: Shape, M: CallMachine<S>>(
 /// Continues after the head of a node that begins there: on the left of a fork where a walk to this
 /// end goes there, or to the end at a leaf.
 #[inline(always)]
-fn pass_last<S: Shape, M: CallMachine<S>>(
+fn pass_last<S: TableShape, M: CallMachine<S>>(
     hand: Hand<S>,
     seat: &mut Seat<u8, SeatView>,
     way: Way,
@@ -134,7 +135,7 @@ fn pass_last<S: Shape, M: CallMachine<S>>(
     at: WalkAt,
     word: u64,
 ) -> Result<Side, Found>
-    requires table { IsAt hand seat.old }
+    requires table { IsAt S.mode S.lasts hand seat.old }
     requires stands { AsksHead (hand_slots hand) trail at start }
     requires left { (head_of word).leaf ≡ false
         → open_side (Goal.End side) (head_of word) ≡ Side.Left }
@@ -169,14 +170,14 @@ fn goes_right(word: u64) -> bool
 /// Goes right as long as a walk to the last pair does so, in a loop of its own: there the compiler
 /// knows the side, as it does behind the loop. Answers where it is then, and the head there.
 #[inline(always)]
-fn descend_right<S: Shape, M: CallMachine<S>>(
+fn descend_right<S: TableShape, M: CallMachine<S>>(
     hand: Hand<S>,
     seat: &mut Seat<u8, SeatView>,
     way: Way,
     first: Reached,
     head: u64,
 ) -> (Reached, u64)
-    requires table { IsAt hand seat.old }
+    requires table { IsAt S.mode S.lasts hand seat.old }
     requires stands { AsksHead (hand_slots hand) first.trail first.at first.start }
     requires told { (w : Walker (hand_calls S.Shape M.Machine M.left_dealt hand))
         × WalkerIsTold w seat.old.me.0.passes
@@ -207,13 +208,13 @@ fn descend_right<S: Shape, M: CallMachine<S>>(
 /// The walk by this way from a place on to the last leaf: forks at which it goes right have a loop
 /// of their own.
 #[inline(always)]
-pub(crate) fn to_last_from<S: Shape, M: CallMachine<S>>(
+pub(crate) fn to_last_from<S: TableShape, M: CallMachine<S>>(
     hand: Hand<S>,
     seat: &mut Seat<u8, SeatView>,
     way: Way,
     first: Reached,
 ) -> (Found, LastTurns)
-    requires table { IsAt hand seat.old }
+    requires table { IsAt S.mode S.lasts hand seat.old }
     requires stands { AsksHead (hand_slots hand) first.trail first.at first.start }
     requires waits { MayWalkFrom S.Shape M.Machine M.left_dealt hand seat.old way
         (Goal.End Side.Right) first }
@@ -223,10 +224,10 @@ pub(crate) fn to_last_from<S: Shape, M: CallMachine<S>>(
     ensures finds { WalkEndsFrom S.Shape M.Machine M.left_dealt hand.entry seat.old way
         (Goal.End Side.Right) first seat.new result.1 result.0 }
 {
-    let layout = *hand.layout;
+    let plan = *hand.plan;
     let hand = Hand {
         words: hand.words,
-        layout: &layout,
+        plan: &plan,
         number: hand.number,
         size: hand.size,
     };

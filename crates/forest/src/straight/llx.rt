@@ -15,6 +15,7 @@ use crate::call_machine::{CallMachine, CellShape};
 use crate::steps::complete;
 use crate::straight::hand::Hand;
 use crate::straight::step::step;
+use crate::table_shape::TableShape;
 use crate::view::SeatView;
 use arena::{
     ABORTED, Access, COMMITTED, Kind, NodeNo, NodeWord, ScxNo, ScxWord, Shape, Side, Step, Turn,
@@ -47,13 +48,13 @@ pub(crate) fn leaves(state: u64, marked: bool) -> bool
 
 /// Loads a word.
 #[inline(always)]
-fn read<S: Shape, M: CallMachine<S>, T: Shape>(
+fn read<S: TableShape, M: CallMachine<S>, T: Shape>(
     hand: Hand<S>,
     seat: &mut Seat<u8, SeatView>,
     kind: Kind,
     word: Word,
 ) -> u64
-    requires table { IsAt hand seat.old }
+    requires table { IsAt S.mode S.lasts hand seat.old }
     requires waits { WaitsInside (hand_calls S.Shape M.Machine M.left_dealt hand)
         (inner_llx T.allows) seat.old (load kind word) }
     ensures { MakesInside (hand_calls S.Shape M.Machine M.left_dealt hand.entry)
@@ -66,12 +67,12 @@ fn read<S: Shape, M: CallMachine<S>, T: Shape>(
 /// LLX of a node whose mark is asked for: the loads of a snapshot. If something is in the way,
 /// it returns whether the node was marked, and by which SCX-record, whose state is asked for again.
 #[inline(always)]
-pub(crate) fn look<S: Shape, M: CallMachine<S>, T: Shape>(
+pub(crate) fn look<S: TableShape, M: CallMachine<S>, T: Shape>(
     hand: Hand<S>,
     seat: &mut Seat<u8, SeatView>,
     node: NodeNo,
 ) -> Result<Snap, (bool, ScxNo)>
-    requires table { IsAt hand seat.old }
+    requires table { IsAt S.mode S.lasts hand seat.old }
     requires waits { (k : Looker T.allows (hand_calls S.Shape M.Machine M.left_dealt hand))
         × LoadsMark k seat.old.me.0.passes node }
     ensures table { StaysAtTable seat.old seat.new }
@@ -124,7 +125,7 @@ fn hand_over<S: CellShape>(
     marked: bool,
     scx: ScxNo,
 ) -> Llx
-    requires table { IsAt hand seat.old }
+    requires table { IsAt S.mode S.lasts hand seat.old }
     requires waits { (c : Call) × IsCallOf hand c
         × SeatLlxWaits S.allows c seat.old.me.0.passes node (LlxAt.StateAgain marked scx)
         (load Kind.LoadState (Word.Scx scx ScxWord.State)) }
@@ -139,13 +140,13 @@ fn hand_over<S: CellShape>(
     let at = LlxAt::StateAgain { marked, scx };
     let turn = Turn::Ask(load(Kind::LoadState, Word::Scx(scx, ScxWord::State)));
     let mut run = LlxRun { node, at };
-    complete::<S, LlxRun, S, LlxRun>(hand.words, hand.layout, seat, hand.number, &mut run, turn)
+    complete::<S, LlxRun, S, LlxRun>(hand.words, hand.plan, seat, hand.number, &mut run, turn)
 }
 
 /// LLX of a node: the loads of a snapshot; if something is in the way, the machine continues.
 #[inline(always)]
 pub(crate) fn call<S: CellShape>(hand: Hand<S>, seat: &mut Seat<u8, SeatView>, node: NodeNo) -> Llx
-    requires table { IsAt hand seat.old }
+    requires table { IsAt S.mode S.lasts hand seat.old }
     requires begins { (c : Call) × IsCallOf hand c
         × SeatLlxBegins S.allows c seat.old.me.0.passes node }
     ensures table { StaysAtTable seat.old seat.new }

@@ -17,8 +17,9 @@ ghost use Rattle.template.specs.Walk.Places.{way_at};
 use crate::call_machine::CallMachine;
 use crate::straight::hand::Hand;
 use crate::straight::step::step_from;
+use crate::table_shape::TableShape;
 use crate::view::SeatView;
-use arena::{Access, Head, Kind, NodeNo, NodeWord, SettledPart, Shape, Side, Slot, Step, Word};
+use arena::{Access, Head, Kind, NodeNo, NodeWord, SettledPart, Side, Slot, Step, Word};
 use atomic_table::Seat;
 use order::LastTurns;
 use ordered_map::wide_value;
@@ -63,7 +64,7 @@ impl Reached {
 
 /// Loads a word of a node that begins there.
 #[inline(always)]
-pub(crate) fn read<S: Shape, M: CallMachine<S>>(
+pub(crate) fn read<S: TableShape, M: CallMachine<S>>(
     hand: Hand<S>,
     seat: &mut Seat<u8, SeatView>,
     kind: Kind,
@@ -71,7 +72,7 @@ pub(crate) fn read<S: Shape, M: CallMachine<S>>(
     start: usize,
     part: NodeWord,
 ) -> u64
-    requires table { IsAt hand seat.old }
+    requires table { IsAt S.mode S.lasts hand seat.old }
     requires start { start ≡ node_begins (hand_slots hand) node }
     requires waits { (w : Walker (hand_calls S.Shape M.Machine M.left_dealt hand)) × (m : WalkRun)
         × (turn : LastTurns)
@@ -92,7 +93,7 @@ pub(crate) fn read<S: Shape, M: CallMachine<S>>(
 /// which the places of all words fit: else the compiler computes beside it where the node's bytes
 /// begin, at each node. A walk to the first pair needs those alone.
 #[inline(always)]
-pub(crate) fn start_for<S: Shape>(hand: Hand<S>, goal: Goal, node: NodeNo) -> usize
+pub(crate) fn start_for<S: TableShape>(hand: Hand<S>, goal: Goal, node: NodeNo) -> usize
     requires { node.0 < all_nodes (names hand) }
     ensures { result ≡ node_begins (hand_slots hand.entry) node }
 {
@@ -115,7 +116,7 @@ pub(crate) fn is_leaf(word: u64) -> bool
 /// Ends at the pair in this slot of a leaf that begins there, which it answers: with the two words
 /// of its value.
 #[inline(always)]
-pub(crate) fn end_with<S: Shape, M: CallMachine<S>>(
+pub(crate) fn end_with<S: TableShape, M: CallMachine<S>>(
     hand: Hand<S>,
     seat: &mut Seat<u8, SeatView>,
     way: Way,
@@ -127,7 +128,7 @@ pub(crate) fn end_with<S: Shape, M: CallMachine<S>>(
     slot: Slot,
     key: u64,
 ) -> Found
-    requires table { IsAt hand seat.old }
+    requires table { IsAt S.mode S.lasts hand seat.old }
     requires start { start ≡ node_begins (hand_slots hand) trail.node }
     requires asked { asked_key goal key ≡ key }
     requires told { HasWalked S.Shape M.Machine M.left_dealt hand seat.old
@@ -154,7 +155,7 @@ pub(crate) fn end_with<S: Shape, M: CallMachine<S>>(
 /// Goes down from a fork with the head in this word to its child on this side. Where the words of
 /// the child begin is computed once, as soon as it is known.
 #[inline(always)]
-pub(crate) fn descend<S: Shape, M: CallMachine<S>>(
+pub(crate) fn descend<S: TableShape, M: CallMachine<S>>(
     hand: Hand<S>,
     seat: &mut Seat<u8, SeatView>,
     way: Way,
@@ -163,7 +164,7 @@ pub(crate) fn descend<S: Shape, M: CallMachine<S>>(
     word: u64,
     side: Side,
 ) -> Reached
-    requires table { IsAt hand seat.old }
+    requires table { IsAt S.mode S.lasts hand seat.old }
     requires start { place.start ≡ node_begins (hand_slots hand) place.trail.node }
     requires waits { (w : Walker (hand_calls S.Shape M.Machine M.left_dealt hand))
         × WalkerGoesDown w seat.old.me.0.passes way goal place.trail (head_of word).level side

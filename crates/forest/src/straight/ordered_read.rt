@@ -22,6 +22,7 @@ use crate::straight::llx::{load, look};
 use crate::straight::step::step;
 use crate::straight::vlx::validate;
 use crate::straight::walk;
+use crate::table_shape::{TableShape, Upkeep};
 use crate::view::SeatView;
 use arena::{
     Access, Head, Kind, Machine, NodeNo, NodeWord, ScxNo, ScxWord, SettledPart, Shape, Slot, Step,
@@ -33,16 +34,16 @@ use order::{
     ReadBegin, ReadLoad, ReadNext, ReadRun, Refused, ValueLoad, leaf_way,
 };
 use prims::{LlxAt, LlxRun, Snap, SnapList};
-use template::{FixedBalance, Goal, Tree};
+use template::{Goal, Tree};
 
 /// Loads a settled word.
 #[inline(always)]
-pub(crate) fn read<S: Shape, M: CallMachine<S>, T: Shape, N: Machine<T>>(
+pub(crate) fn read<S: TableShape, M: CallMachine<S>, T: Shape, N: Machine<T>>(
     hand: Hand<S>,
     seat: &mut Seat<u8, SeatView>,
     word: Word,
 ) -> u64
-    requires table { IsAt hand seat.old }
+    requires table { IsAt S.mode S.lasts hand seat.old }
     requires waits { (r : Host (hand_calls S.Shape M.Machine M.left_dealt hand)
         (inner_machine T.Shape N.Machine)) × (m : N)
         × HostedWaits r seat.old.me.0.passes m (load Kind.LoadSettled word) }
@@ -59,13 +60,13 @@ pub(crate) fn read<S: Shape, M: CallMachine<S>, T: Shape, N: Machine<T>>(
 
 /// Completes a read by its machine, which gets this.
 #[inline(never)]
-pub(crate) fn tell<S: Shape, M: CallMachine<S>, T: Shape, N: Machine<T>>(
+pub(crate) fn tell<S: TableShape, M: CallMachine<S>, T: Shape, N: Machine<T>>(
     hand: Hand<S>,
     seat: &mut Seat<u8, SeatView>,
     run: &mut N,
     told: u64,
 ) -> N::Answer
-    requires table { IsAt hand seat.old }
+    requires table { IsAt S.mode S.lasts hand seat.old }
     requires told { (r : Host (hand_calls S.Shape M.Machine M.left_dealt hand)
         (inner_machine T.Shape N.Machine))
         × HostedIsTold r seat.old.me.0.passes run.old told }
@@ -75,7 +76,7 @@ pub(crate) fn tell<S: Shape, M: CallMachine<S>, T: Shape, N: Machine<T>>(
         (λ r ps. HostedEnds r ps run.new result) }
 {
     let turn = run.next(Some(told));
-    complete::<S, M, T, N>(hand.words, hand.layout, seat, hand.number, run, turn)
+    complete::<S, M, T, N>(hand.words, hand.plan, seat, hand.number, run, turn)
 }
 
 /// Why a read does not go on here: small, so that the turns of a read keep it in registers.
@@ -95,7 +96,7 @@ pub(crate) enum ReadStop {
 
 /// Looks at a fork, and returns what is done next.
 #[inline(always)]
-fn look_on<S: Shape, M: CallMachine<S>, R: Read + Drop>(
+fn look_on<S: TableShape, M: CallMachine<S>, R: Read + Drop>(
     hand: Hand<S>,
     seat: &mut Seat<u8, SeatView>,
     run: &mut ReadRun<R>,
@@ -103,7 +104,7 @@ fn look_on<S: Shape, M: CallMachine<S>, R: Read + Drop>(
     level: u64,
     node: NodeNo,
 ) -> Result<ReadNext, ReadStop>
-    requires table { IsAt hand seat.old }
+    requires table { IsAt S.mode S.lasts hand seat.old }
     requires waits { StandsToRead S.Shape M.Machine M.left_dealt R.means hand
         seat.old run.old (ReadNext.Look children level node) }
     ensures { ReadGoesOn S.Shape M.Machine M.left_dealt R.means hand.entry 1
@@ -125,7 +126,7 @@ fn look_on<S: Shape, M: CallMachine<S>, R: Read + Drop>(
 }
 
 /// Continues with the machine, if something is in the way of a look.
-fn look_again<S: Shape, M: CallMachine<S>, R: Read + Drop>(
+fn look_again<S: TableShape, M: CallMachine<S>, R: Read + Drop>(
     hand: Hand<S>,
     seat: &mut Seat<u8, SeatView>,
     run: &mut ReadRun<R>,
@@ -135,7 +136,7 @@ fn look_again<S: Shape, M: CallMachine<S>, R: Read + Drop>(
     marked: bool,
     scx: ScxNo,
 ) -> Result<R::Answer, Refused>
-    requires table { IsAt hand seat.old }
+    requires table { IsAt S.mode S.lasts hand seat.old }
     requires waits { (r : Reader (hand_calls S.Shape M.Machine M.left_dealt hand) R.means)
         × ReaderLooksAgain r seat.old.me.0.passes run.old children level node marked scx }
     ensures { Leads seat.old seat.new (suc (again_left R.means run.old children level node marked
@@ -152,20 +153,20 @@ fn look_again<S: Shape, M: CallMachine<S>, R: Read + Drop>(
         llx,
     };
     let turn = Turn::Ask(load(Kind::LoadState, Word::Scx(scx, ScxWord::State)));
-    complete::<S, M, Tree, ReadRun<R>>(hand.words, hand.layout, seat, hand.number, run, turn)
+    complete::<S, M, Tree, ReadRun<R>>(hand.words, hand.plan, seat, hand.number, run, turn)
 }
 
 /// Ends a read that stops so: by its machine, if something is in the way. Out of line, so that no
 /// turn pays for its locals.
 #[cold]
 #[inline(never)]
-fn leave<S: Shape, M: CallMachine<S>, R: Read + Drop>(
+fn leave<S: TableShape, M: CallMachine<S>, R: Read + Drop>(
     hand: Hand<S>,
     seat: &mut Seat<u8, SeatView>,
     run: &mut ReadRun<R>,
     stop: ReadStop,
 ) -> Result<R::Answer, Refused>
-    requires table { IsAt hand seat.old }
+    requires table { IsAt S.mode S.lasts hand seat.old }
     requires stops { (r : Reader (hand_calls S.Shape M.Machine M.left_dealt hand) R.means)
         × ReaderGoesOn r seat.old.me.0.passes run.old (Err stop) }
     ensures { ReadEndsFrom S.Shape M.Machine M.left_dealt R.means hand.entry
@@ -186,12 +187,12 @@ fn leave<S: Shape, M: CallMachine<S>, R: Read + Drop>(
 /// Validates what it has looked at, and returns what the read has answered. If the last load has
 /// not found what was found before, its machine gets that, and continues to the end.
 #[inline(always)]
-fn validate_on<S: Shape, M: CallMachine<S>, R: Read + Drop>(
+fn validate_on<S: TableShape, M: CallMachine<S>, R: Read + Drop>(
     hand: Hand<S>,
     seat: &mut Seat<u8, SeatView>,
     run: &mut ReadRun<R>,
 ) -> Result<R::Answer, Refused>
-    requires table { IsAt hand seat.old }
+    requires table { IsAt S.mode S.lasts hand seat.old }
     requires waits { StandsToRead S.Shape M.Machine M.left_dealt R.means hand seat.old run.old
         ReadNext.Validate }
     ensures { ReadEnds S.Shape M.Machine M.left_dealt R.means hand.entry
@@ -209,13 +210,13 @@ fn validate_on<S: Shape, M: CallMachine<S>, R: Read + Drop>(
 
 /// Loads a word of a node, and returns what is done next.
 #[inline(always)]
-fn load_on<S: Shape, M: CallMachine<S>, R: Read + Drop, L: KnownLoad<R>>(
+fn load_on<S: TableShape, M: CallMachine<S>, R: Read + Drop, L: KnownLoad<R>>(
     hand: Hand<S>,
     seat: &mut Seat<u8, SeatView>,
     run: &mut ReadRun<R>,
     load: &L,
 ) -> Result<ReadNext, ReadStop>
-    requires table { IsAt hand seat.old }
+    requires table { IsAt S.mode S.lasts hand seat.old }
     requires waits { StandsToRead S.Shape M.Machine M.left_dealt R.means hand
         seat.old run.old (ReadNext.Load (L.load load.now)) }
     ensures { ReadGoesOn S.Shape M.Machine M.left_dealt R.means hand.entry 1
@@ -230,14 +231,14 @@ fn load_on<S: Shape, M: CallMachine<S>, R: Read + Drop, L: KnownLoad<R>>(
 
 /// Loads the two words of a value that is taken.
 #[inline(always)]
-fn read_value<S: Shape, M: CallMachine<S>, R: Read + Drop>(
+fn read_value<S: TableShape, M: CallMachine<S>, R: Read + Drop>(
     hand: Hand<S>,
     seat: &mut Seat<u8, SeatView>,
     run: &mut ReadRun<R>,
     place: LeafPlace,
     key: u64,
 ) -> Result<ReadNext, ReadStop>
-    requires table { IsAt hand seat.old }
+    requires table { IsAt S.mode S.lasts hand seat.old }
     requires waits { StandsToRead S.Shape M.Machine M.left_dealt R.means hand
         seat.old run.old (ReadNext.Load (ReadLoad.Value place key)) }
     ensures { ReadGoesOn S.Shape M.Machine M.left_dealt R.means hand.entry 1
@@ -258,13 +259,13 @@ fn read_value<S: Shape, M: CallMachine<S>, R: Read + Drop>(
 
 /// Loads the key at this place of a leaf, and the value of the pair that is taken.
 #[inline(always)]
-fn read_pair<S: Shape, M: CallMachine<S>, R: Read + Drop>(
+fn read_pair<S: TableShape, M: CallMachine<S>, R: Read + Drop>(
     hand: Hand<S>,
     seat: &mut Seat<u8, SeatView>,
     run: &mut ReadRun<R>,
     place: LeafPlace,
 ) -> Result<ReadNext, ReadStop>
-    requires table { IsAt hand seat.old }
+    requires table { IsAt S.mode S.lasts hand seat.old }
     requires waits { StandsToRead S.Shape M.Machine M.left_dealt R.means hand
         seat.old run.old (ReadNext.Load (ReadLoad.Pair place)) }
     ensures { ReadGoesOn S.Shape M.Machine M.left_dealt R.means hand.entry 1
@@ -285,14 +286,14 @@ fn read_pair<S: Shape, M: CallMachine<S>, R: Read + Drop>(
 /// Loads the pair in this slot, if it is the one that comes next. Where its caller knows the slot,
 /// so does the compiler.
 #[inline(always)]
-fn read_next_pair<S: Shape, M: CallMachine<S>, R: Read + Drop>(
+fn read_next_pair<S: TableShape, M: CallMachine<S>, R: Read + Drop>(
     hand: Hand<S>,
     seat: &mut Seat<u8, SeatView>,
     run: &mut ReadRun<R>,
     next: ReadNext,
     slot: Slot,
 ) -> Result<ReadNext, ReadStop>
-    requires table { IsAt hand seat.old }
+    requires table { IsAt S.mode S.lasts hand seat.old }
     requires waits { StandsToRead S.Shape M.Machine M.left_dealt R.means hand seat.old run.old
         next }
     ensures { ReadGoesOn S.Shape M.Machine M.left_dealt R.means hand.entry 0
@@ -309,13 +310,13 @@ fn read_next_pair<S: Shape, M: CallMachine<S>, R: Read + Drop>(
 /// Goes through the pairs of a leaf from this place on: slot by slot, so that the compiler knows
 /// where in the leaf each word is.
 #[inline(always)]
-fn read_pairs<S: Shape, M: CallMachine<S>, R: Read + Drop>(
+fn read_pairs<S: TableShape, M: CallMachine<S>, R: Read + Drop>(
     hand: Hand<S>,
     seat: &mut Seat<u8, SeatView>,
     run: &mut ReadRun<R>,
     first: ReadNext,
 ) -> Result<ReadNext, ReadStop>
-    requires table { IsAt hand seat.old }
+    requires table { IsAt S.mode S.lasts hand seat.old }
     requires waits { StandsToRead S.Shape M.Machine M.left_dealt R.means hand seat.old run.old
         first }
     ensures { ReadGoesOn S.Shape M.Machine M.left_dealt R.means hand.entry 0
@@ -338,14 +339,14 @@ fn read_pairs<S: Shape, M: CallMachine<S>, R: Read + Drop>(
 
 /// Loads the head of a node, and the key of a fork or how many pairs a leaf has.
 #[inline(always)]
-fn read_node<S: Shape, M: CallMachine<S>, R: Read + Drop>(
+fn read_node<S: TableShape, M: CallMachine<S>, R: Read + Drop>(
     hand: Hand<S>,
     seat: &mut Seat<u8, SeatView>,
     run: &mut ReadRun<R>,
     above: u64,
     node: NodeNo,
 ) -> Result<ReadNext, ReadStop>
-    requires table { IsAt hand seat.old }
+    requires table { IsAt S.mode S.lasts hand seat.old }
     requires waits { StandsToRead S.Shape M.Machine M.left_dealt R.means hand
         seat.old run.old (ReadNext.Load (ReadLoad.Head above node)) }
     ensures { ReadGoesOn S.Shape M.Machine M.left_dealt R.means hand.entry 1
@@ -368,13 +369,13 @@ fn read_node<S: Shape, M: CallMachine<S>, R: Read + Drop>(
 
 /// Looks at a fork, if that comes next.
 #[inline(always)]
-fn look_next<S: Shape, M: CallMachine<S>, R: Read + Drop>(
+fn look_next<S: TableShape, M: CallMachine<S>, R: Read + Drop>(
     hand: Hand<S>,
     seat: &mut Seat<u8, SeatView>,
     run: &mut ReadRun<R>,
     next: ReadNext,
 ) -> Result<ReadNext, ReadStop>
-    requires table { IsAt hand seat.old }
+    requires table { IsAt S.mode S.lasts hand seat.old }
     requires waits { StandsToRead S.Shape M.Machine M.left_dealt R.means hand seat.old run.old
         next }
     ensures { ReadGoesOn S.Shape M.Machine M.left_dealt R.means hand.entry 0
@@ -393,13 +394,13 @@ fn look_next<S: Shape, M: CallMachine<S>, R: Read + Drop>(
 /// Makes what is left of a try turn by turn. Out of line, so that what is left after the turns put
 /// together is as small as the VLX.
 #[inline(never)]
-fn rest_by_turns<S: Shape, M: CallMachine<S>, R: Read + Drop>(
+fn rest_by_turns<S: TableShape, M: CallMachine<S>, R: Read + Drop>(
     hand: Hand<S>,
     seat: &mut Seat<u8, SeatView>,
     run: &mut ReadRun<R>,
     mut next: ReadNext,
 ) -> Result<R::Answer, Refused>
-    requires table { IsAt hand seat.old }
+    requires table { IsAt S.mode S.lasts hand seat.old }
     requires waits { StandsToRead S.Shape M.Machine M.left_dealt R.means hand seat.old run.old
         next }
     ensures { ReadEnds S.Shape M.Machine M.left_dealt R.means hand.entry
@@ -427,13 +428,13 @@ fn rest_by_turns<S: Shape, M: CallMachine<S>, R: Read + Drop>(
 /// Makes what is left of a try, which is the VLX as a rule. Out of line, so that the turns before it
 /// are put together as if there were nothing else.
 #[inline(never)]
-fn rest<S: Shape, M: CallMachine<S>, R: Read + Drop>(
+fn rest<S: TableShape, M: CallMachine<S>, R: Read + Drop>(
     hand: Hand<S>,
     seat: &mut Seat<u8, SeatView>,
     run: &mut ReadRun<R>,
     next: ReadNext,
 ) -> Result<R::Answer, Refused>
-    requires table { IsAt hand seat.old }
+    requires table { IsAt S.mode S.lasts hand seat.old }
     requires waits { StandsToRead S.Shape M.Machine M.left_dealt R.means hand seat.old run.old
         next }
     ensures { ReadEnds S.Shape M.Machine M.left_dealt R.means hand.entry
@@ -447,13 +448,13 @@ fn rest<S: Shape, M: CallMachine<S>, R: Read + Drop>(
 
 /// Makes what is left of a try from this on.
 #[inline(always)]
-fn go_on<S: Shape, M: CallMachine<S>, R: Read + Drop>(
+fn go_on<S: TableShape, M: CallMachine<S>, R: Read + Drop>(
     hand: Hand<S>,
     seat: &mut Seat<u8, SeatView>,
     run: &mut ReadRun<R>,
     first: ReadNext,
 ) -> Result<R::Answer, Refused>
-    requires table { IsAt hand seat.old }
+    requires table { IsAt S.mode S.lasts hand seat.old }
     requires waits { StandsToRead S.Shape M.Machine M.left_dealt R.means hand seat.old run.old
         first }
     ensures { ReadEnds S.Shape M.Machine M.left_dealt R.means hand.entry
@@ -489,12 +490,12 @@ fn go_on<S: Shape, M: CallMachine<S>, R: Read + Drop>(
 
 /// Makes the try that begins with the load of the root's head.
 #[inline(always)]
-fn from_root<S: Shape, M: CallMachine<S>, R: Read + Drop>(
+fn from_root<S: TableShape, M: CallMachine<S>, R: Read + Drop>(
     hand: Hand<S>,
     seat: &mut Seat<u8, SeatView>,
     run: &mut ReadRun<R>,
 ) -> Result<R::Answer, Refused>
-    requires table { IsAt hand seat.old }
+    requires table { IsAt S.mode S.lasts hand seat.old }
     requires waits { (r : Reader (hand_calls S.Shape M.Machine M.left_dealt hand) R.means)
         × ReaderRoots r seat.old.me.0.passes run.old }
     ensures { Leads seat.old seat.new (suc (root_left R.means run.old
@@ -512,15 +513,14 @@ fn from_root<S: Shape, M: CallMachine<S>, R: Read + Drop>(
 
 /// Makes an ordered read: its first try inline. A function of its own, as that of an update.
 #[inline(never)]
-pub(crate) fn call<S: Shape, M: CallMachine<S>, R: Read + Drop, B: FixedBalance>(
+pub(crate) fn call<S: TableShape, M: CallMachine<S>, R: Read + Drop, B: Upkeep>(
     hand: Hand<S>,
     seat: &mut Seat<u8, SeatView>,
     run: &mut ReadRun<R>,
 ) -> Result<R::Answer, Refused>
-    requires table { IsAt hand seat.old }
+    requires table { IsAt S.mode S.lasts hand seat.old }
     requires begins { (r : Reader (hand_calls S.Shape M.Machine M.left_dealt hand) R.means)
         × ReaderBegins r seat.old.me.0.passes run.old }
-    requires mode { hand.layout.now.mode ≡ S.mode }
     requires trie { run.old.trie ≡ B.trie B.the }
     ensures leads { Leads seat.old seat.new (read_left R.means run.old
         (nodes_by run.old.trie (shared_nodes (names hand.entry))))
@@ -531,7 +531,7 @@ pub(crate) fn call<S: Shape, M: CallMachine<S>, R: Read + Drop, B: FixedBalance>
 {
     let hand = Hand {
         words: hand.words,
-        layout: hand.layout,
+        plan: hand.plan,
         number: hand.number,
         size: S::node_size(),
     };

@@ -61,7 +61,7 @@ fn fill_value<S: CellShape>(
     snaps: &[Snap],
     put: PutTask,
 )
-    requires table { IsAt hand seat.old }
+    requires table { IsAt S.mode S.lasts hand seat.old }
     requires fits { length snaps.now ≤ 4 }
     requires begins { (c : Call) × IsCallOf hand c
         × SeatPutBegins S.allows c seat.old.me.0.passes (fresh_put snaps.now put) }
@@ -85,7 +85,7 @@ fn fill_value<S: CellShape>(
 }
 
 /// Continues with the machine, if a node could not be frozen: it waits to look whether all were.
-/// The layout and the run of HELP are copies, so that the caller's, which are not handed out of
+/// The plan and the run of HELP are copies, so that the caller's, which are not handed out of
 /// line, stay in registers.
 #[inline(always)]
 fn complete_blocked<S: CellShape>(
@@ -95,7 +95,7 @@ fn complete_blocked<S: CellShape>(
     put: PutTask,
     help: &HelpRun,
 ) -> Scx
-    requires table { IsAt hand seat.old }
+    requires table { IsAt S.mode S.lasts hand seat.old }
     requires fits { length snaps.now ≤ 4 }
     requires waits { (c : Call) × (first : PutRun) × IsCallOf hand c
         × SeatPutWaits S.allows c seat.old.me.0.passes first
@@ -111,7 +111,7 @@ fn complete_blocked<S: CellShape>(
         (all_frozen_load put.task.scx)
         → (m : PutRun) × SeatPutEnds S.allows c seat.new.me.0.passes first m result }
 {
-    let (words, copy, number) = (hand.words, *hand.layout, hand.number);
+    let (words, copy, number) = (hand.words, *hand.plan, hand.number);
     let mut run = machine(snaps, put, ScxAt::Help { help: *help }, PutAt::Scx);
     let step = Step {
         kind: Kind::LoadAllFrozen,
@@ -129,7 +129,7 @@ pub(crate) fn call<S: CellShape>(
     snaps: &[Snap],
     put: PutTask,
 ) -> Scx
-    requires table { IsAt hand seat.old }
+    requires table { IsAt S.mode S.lasts hand seat.old }
     requires fits { length snaps.now ≤ 4 }
     requires begins { (c : Call) × IsCallOf hand c
         × SeatPutBegins S.allows c seat.old.me.0.passes (fresh_put snaps.now put) }

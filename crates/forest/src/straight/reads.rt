@@ -11,15 +11,16 @@ ghost use Rattle.edits.specs.declared.update.Next.{Next};
 use crate::call_machine::CallMachine;
 use crate::straight::hand::Hand;
 use crate::straight::step::step;
+use crate::table_shape::TableShape;
 use crate::view::SeatView;
-use arena::{Access, Kind, NodeNo, NodeWord, SettledPart, Shape, Slot, Step, Word};
+use arena::{Access, Kind, NodeNo, NodeWord, SettledPart, Slot, Step, Word};
 use atomic_table::Seat;
 use edits::{Edit, Next, UpdateRun};
 use template::Found;
 
 /// Loads a settled word of the node that is read.
 #[inline(always)]
-fn read_word<S: Shape, M: CallMachine<S>, E: Edit + Copy>(
+fn read_word<S: TableShape, M: CallMachine<S>, E: Edit + Copy>(
     hand: Hand<S>,
     seat: &mut Seat<u8, SeatView>,
     run: &mut UpdateRun<E, ()>,
@@ -27,7 +28,7 @@ fn read_word<S: Shape, M: CallMachine<S>, E: Edit + Copy>(
     node: NodeNo,
     part: SettledPart,
 ) -> Next
-    requires table { IsAt hand seat.old }
+    requires table { IsAt S.mode S.lasts hand seat.old }
     requires tries { StandsToTry S.Shape M.Machine M.left_dealt E.means hand found.now
         seat.old run.old (Ok (Next.Read node part)) }
     ensures goes_on { TryGoesOn S.Shape M.Machine M.left_dealt E.means hand.entry found.now
@@ -43,7 +44,7 @@ fn read_word<S: Shape, M: CallMachine<S>, E: Edit + Copy>(
 /// Loads key, value and high half of the pair in this slot of a leaf. Where its caller knows the
 /// slot, so does the compiler.
 #[inline(always)]
-fn read_pair<S: Shape, M: CallMachine<S>, E: Edit + Copy>(
+fn read_pair<S: TableShape, M: CallMachine<S>, E: Edit + Copy>(
     hand: Hand<S>,
     seat: &mut Seat<u8, SeatView>,
     run: &mut UpdateRun<E, ()>,
@@ -51,7 +52,7 @@ fn read_pair<S: Shape, M: CallMachine<S>, E: Edit + Copy>(
     node: NodeNo,
     slot: Slot,
 ) -> Next
-    requires table { IsAt hand seat.old }
+    requires table { IsAt S.mode S.lasts hand seat.old }
     requires tries { StandsToTry S.Shape M.Machine M.left_dealt E.means hand found.now
         seat.old run.old (Ok (Next.Read node (SettledPart.Key slot))) }
     requires pair { is_at_pair run.old.read ≡ true }
@@ -72,7 +73,7 @@ fn read_pair<S: Shape, M: CallMachine<S>, E: Edit + Copy>(
 
 /// Loads the pair in this slot, where it is the one that is read next.
 #[inline(always)]
-fn read_next_pair<S: Shape, M: CallMachine<S>, E: Edit + Copy>(
+fn read_next_pair<S: TableShape, M: CallMachine<S>, E: Edit + Copy>(
     hand: Hand<S>,
     seat: &mut Seat<u8, SeatView>,
     run: &mut UpdateRun<E, ()>,
@@ -80,7 +81,7 @@ fn read_next_pair<S: Shape, M: CallMachine<S>, E: Edit + Copy>(
     next: Next,
     slot: Slot,
 ) -> Next
-    requires table { IsAt hand seat.old }
+    requires table { IsAt S.mode S.lasts hand seat.old }
     requires tries { StandsToTry S.Shape M.Machine M.left_dealt E.means hand found.now seat.old
         run.old (Ok next) }
     requires pair { is_at_pair run.old.read ≡ true }
@@ -99,14 +100,14 @@ fn read_next_pair<S: Shape, M: CallMachine<S>, E: Edit + Copy>(
 
 /// Loads all pairs of a leaf, whose first key is read next.
 #[inline(always)]
-fn read_pairs<S: Shape, M: CallMachine<S>, E: Edit + Copy>(
+fn read_pairs<S: TableShape, M: CallMachine<S>, E: Edit + Copy>(
     hand: Hand<S>,
     seat: &mut Seat<u8, SeatView>,
     run: &mut UpdateRun<E, ()>,
     found: &Found,
     node: NodeNo,
 ) -> Next
-    requires table { IsAt hand seat.old }
+    requires table { IsAt S.mode S.lasts hand seat.old }
     requires tries { StandsToTry S.Shape M.Machine M.left_dealt E.means hand found.now
         seat.old run.old (Ok (Next.Read node (SettledPart.Key Slot.First))) }
     requires pair { is_at_pair run.old.read ≡ true }
@@ -123,7 +124,7 @@ fn read_pairs<S: Shape, M: CallMachine<S>, E: Edit + Copy>(
 
 /// Loads a settled word of the node that is read, and with the first key of a leaf all its pairs.
 #[inline(always)]
-pub(crate) fn read<S: Shape, M: CallMachine<S>, E: Edit + Copy>(
+pub(crate) fn read<S: TableShape, M: CallMachine<S>, E: Edit + Copy>(
     hand: Hand<S>,
     seat: &mut Seat<u8, SeatView>,
     run: &mut UpdateRun<E, ()>,
@@ -131,7 +132,7 @@ pub(crate) fn read<S: Shape, M: CallMachine<S>, E: Edit + Copy>(
     node: NodeNo,
     part: SettledPart,
 ) -> Next
-    requires table { IsAt hand seat.old }
+    requires table { IsAt S.mode S.lasts hand seat.old }
     requires tries { StandsToTry S.Shape M.Machine M.left_dealt E.means hand found.now
         seat.old run.old (Ok (Next.Read node part)) }
     ensures goes_on { TryGoesOn S.Shape M.Machine M.left_dealt E.means hand.entry found.now

@@ -12,8 +12,9 @@ ghost use Rattle.edits.specs.declared.update.UpdateAt.{UpdateAt as Places};
 use crate::call_machine::CallMachine;
 use crate::straight::hand::Hand;
 use crate::straight::step::step;
+use crate::table_shape::TableShape;
 use crate::view::SeatView;
-use arena::{Layout, PassNo, ScxNo, Shape, Share, Step, Turn};
+use arena::{Layout, PassNo, ScxNo, Share, Step, Turn};
 use atomic_table::Seat;
 use edits::{Edit, Next, Stop, UpdateAt, UpdateRun, Updated, copied};
 use help::HelpRun;
@@ -33,13 +34,13 @@ fn take_run<E: Edit + Copy>(run: &mut UpdateRun<E, ()>, layout: &Layout) -> Upda
 }
 
 /// Makes the rest of an update from this turn of its machine on, and gives it back without a place.
-fn finish<S: Shape, M: CallMachine<S>, E: Edit + Copy>(
+fn finish<S: TableShape, M: CallMachine<S>, E: Edit + Copy>(
     hand: Hand<S>,
     seat: &mut Seat<u8, SeatView>,
     mut machine: UpdateRun<E, UpdateAt>,
     mut turn: Turn<Updated>,
 ) -> (Updated, UpdateRun<E, ()>)
-    requires table { IsAt hand seat.old }
+    requires table { IsAt S.mode S.lasts hand seat.old }
     requires stands { (u : Updater (hand_calls S.Shape M.Machine M.left_dealt hand) E.means)
         × HostedStands u seat.old.me.0.passes machine turn }
     ensures { Leads seat.old seat.new (weight turn
@@ -64,14 +65,14 @@ fn finish<S: Shape, M: CallMachine<S>, E: Edit + Copy>(
 /// Makes the rest of an update from this place on, where it waits for this step.
 #[cold]
 #[inline(never)]
-fn rest_from<S: Shape, M: CallMachine<S>, E: Edit + Copy>(
+fn rest_from<S: TableShape, M: CallMachine<S>, E: Edit + Copy>(
     hand: Hand<S>,
     seat: &mut Seat<u8, SeatView>,
     machine: UpdateRun<E, UpdateAt>,
     at: UpdateAt,
     asked: Step,
 ) -> (Updated, UpdateRun<E, ()>)
-    requires table { IsAt hand seat.old }
+    requires table { IsAt S.mode S.lasts hand seat.old }
     requires waits { (u : Updater (hand_calls S.Shape M.Machine M.left_dealt hand) E.means)
         × HostedWaits u seat.old.me.0.passes (standing machine at) asked }
     ensures { Leads seat.old seat.new (suc (update_left E.means (standing machine at)
@@ -85,14 +86,14 @@ fn rest_from<S: Shape, M: CallMachine<S>, E: Edit + Copy>(
 
 /// Puts an update at this place, where it waits for this step, and makes the rest of it from there.
 #[inline(always)]
-pub(crate) fn from_place<S: Shape, M: CallMachine<S>, E: Edit + Copy>(
+pub(crate) fn from_place<S: TableShape, M: CallMachine<S>, E: Edit + Copy>(
     hand: Hand<S>,
     seat: &mut Seat<u8, SeatView>,
     run: &mut UpdateRun<E, ()>,
     at: UpdateAt,
     asked: Step,
 ) -> Updated
-    requires table { IsAt hand seat.old }
+    requires table { IsAt S.mode S.lasts hand seat.old }
     requires waits { (u : Updater (hand_calls S.Shape M.Machine M.left_dealt hand) E.means)
         × HostedWaits u seat.old.me.0.passes (standing run.old at) asked }
     ensures { Leads seat.old seat.new (suc (update_left E.means (standing run.old at)
@@ -101,7 +102,7 @@ pub(crate) fn from_place<S: Shape, M: CallMachine<S>, E: Edit + Copy>(
         HostedWaits u ps (standing run.old at) asked)
         (λ u ps. UpdaterEnds u ps run.new result) }
 {
-    let machine = take_run(run, hand.layout);
+    let machine = take_run(run, &hand.plan.layout);
     let (updated, rest) = rest_from::<S, M, E>(hand, seat, machine, at, asked);
     *run = rest;
     updated
@@ -110,14 +111,14 @@ pub(crate) fn from_place<S: Shape, M: CallMachine<S>, E: Edit + Copy>(
 /// Makes the rest of an update from what its try does next on.
 #[cold]
 #[inline(never)]
-fn rest_from_next<S: Shape, M: CallMachine<S>, E: Edit + Copy>(
+fn rest_from_next<S: TableShape, M: CallMachine<S>, E: Edit + Copy>(
     hand: Hand<S>,
     seat: &mut Seat<u8, SeatView>,
     mut machine: UpdateRun<E, UpdateAt>,
     found: Found,
     next: Result<Next, Stop>,
 ) -> (Updated, UpdateRun<E, ()>)
-    requires table { IsAt hand seat.old }
+    requires table { IsAt S.mode S.lasts hand seat.old }
     requires goes_on { StandsToTry S.Shape M.Machine M.left_dealt E.means hand found seat.old
         machine next }
     ensures { TryEnds S.Shape M.Machine M.left_dealt E.means hand.entry found
@@ -138,20 +139,20 @@ fn rest_from_next<S: Shape, M: CallMachine<S>, E: Edit + Copy>(
 /// Makes the rest of an update from what its try does next on. Inlined, it copies the leaf,
 /// since the compiler keeps in registers only what is handed to no function out of line.
 #[inline(always)]
-pub(crate) fn from_next<S: Shape, M: CallMachine<S>, E: Edit + Copy>(
+pub(crate) fn from_next<S: TableShape, M: CallMachine<S>, E: Edit + Copy>(
     hand: Hand<S>,
     seat: &mut Seat<u8, SeatView>,
     run: &mut UpdateRun<E, ()>,
     found: &Found,
     next: Result<Next, Stop>,
 ) -> Updated
-    requires table { IsAt hand seat.old }
+    requires table { IsAt S.mode S.lasts hand seat.old }
     requires goes_on { StandsToTry S.Shape M.Machine M.left_dealt E.means hand found.now seat.old
         run.old next }
     ensures { TryEnds S.Shape M.Machine M.left_dealt E.means hand.entry found.now
         seat.old run.old next seat.new run.new result }
 {
-    let machine = take_run(run, hand.layout);
+    let machine = take_run(run, &hand.plan.layout);
     let (updated, rest) = rest_from_next::<S, M, E>(hand, seat, machine, copied(found), next);
     *run = rest;
     updated
@@ -160,7 +161,7 @@ pub(crate) fn from_next<S: Shape, M: CallMachine<S>, E: Edit + Copy>(
 /// Makes the rest of an update whose SCX could not freeze a node.
 #[cold]
 #[inline(never)]
-fn rest_from_block<S: Shape, M: CallMachine<S>, E: Edit + Copy>(
+fn rest_from_block<S: TableShape, M: CallMachine<S>, E: Edit + Copy>(
     hand: Hand<S>,
     seat: &mut Seat<u8, SeatView>,
     mut machine: UpdateRun<E, UpdateAt>,
@@ -168,7 +169,7 @@ fn rest_from_block<S: Shape, M: CallMachine<S>, E: Edit + Copy>(
     scx: ScxNo,
     help: HelpRun,
 ) -> (Updated, UpdateRun<E, ()>)
-    requires table { IsAt hand seat.old }
+    requires table { IsAt S.mode S.lasts hand seat.old }
     requires blocked { (u : Updater (hand_calls S.Shape M.Machine M.left_dealt hand) E.means)
         × UpdaterIsBlocked u seat.old.me.0.passes machine found scx help }
     ensures { Leads seat.old seat.new (left_at_block E.means machine help
@@ -183,7 +184,7 @@ fn rest_from_block<S: Shape, M: CallMachine<S>, E: Edit + Copy>(
 
 /// Makes the rest of an update whose SCX could not freeze a node, with copies as above.
 #[inline(always)]
-pub(crate) fn from_block<S: Shape, M: CallMachine<S>, E: Edit + Copy>(
+pub(crate) fn from_block<S: TableShape, M: CallMachine<S>, E: Edit + Copy>(
     hand: Hand<S>,
     seat: &mut Seat<u8, SeatView>,
     run: &mut UpdateRun<E, ()>,
@@ -191,7 +192,7 @@ pub(crate) fn from_block<S: Shape, M: CallMachine<S>, E: Edit + Copy>(
     scx: ScxNo,
     help: &HelpRun,
 ) -> Updated
-    requires table { IsAt hand seat.old }
+    requires table { IsAt S.mode S.lasts hand seat.old }
     requires blocked { (u : Updater (hand_calls S.Shape M.Machine M.left_dealt hand) E.means)
         × UpdaterIsBlocked u seat.old.me.0.passes run.old found.now scx help.now }
     ensures { Leads seat.old seat.new (left_at_block E.means run.old help.now
@@ -200,7 +201,7 @@ pub(crate) fn from_block<S: Shape, M: CallMachine<S>, E: Edit + Copy>(
         UpdaterIsBlocked u ps run.old found.now scx help.now)
         (λ u ps. UpdaterEnds u ps run.new result) }
 {
-    let machine = take_run(run, hand.layout);
+    let machine = take_run(run, &hand.plan.layout);
     let (updated, rest) = rest_from_block::<S, M, E>(
         hand,
         seat,

@@ -18,6 +18,7 @@ use crate::call_machine::CallMachine;
 use crate::straight::hand::Hand;
 use crate::straight::helps;
 use crate::straight::step::step_from;
+use crate::table_shape::TableShape;
 use crate::view::SeatView;
 use arena::{Access, Kind, MemberIndex, NodeNo, Plan, ScxNo, ScxWord, Shape, Step, Word};
 use atomic_table::Seat;
@@ -36,7 +37,7 @@ pub(crate) struct ScxTask {
 
 /// Fills a word of the SCX-record, which begins there.
 #[inline(always)]
-fn fill<S: Shape, M: CallMachine<S>, T: Shape>(
+fn fill<S: TableShape, M: CallMachine<S>, T: Shape>(
     hand: Hand<S>,
     seat: &mut Seat<u8, SeatView>,
     scx: ScxNo,
@@ -44,7 +45,7 @@ fn fill<S: Shape, M: CallMachine<S>, T: Shape>(
     part: ScxWord,
     value: u64,
 ) -> u64
-    requires table { IsAt hand seat.old }
+    requires table { IsAt S.mode S.lasts hand seat.old }
     requires start { start ≡ scx_begins (hand_slots hand) scx }
     requires waits { WaitsInside (hand_calls S.Shape M.Machine M.left_dealt hand)
         (inner_scx T.allows) seat.old (scx_fill scx part value) }
@@ -58,7 +59,7 @@ fn fill<S: Shape, M: CallMachine<S>, T: Shape>(
 
 /// Fills the node of this place, and returns the next place.
 #[inline(always)]
-fn fill_member<S: Shape, M: CallMachine<S>, T: Shape, L: SnapList>(
+fn fill_member<S: TableShape, M: CallMachine<S>, T: Shape, L: SnapList>(
     hand: Hand<S>,
     seat: &mut Seat<u8, SeatView>,
     snaps: &L,
@@ -66,7 +67,7 @@ fn fill_member<S: Shape, M: CallMachine<S>, T: Shape, L: SnapList>(
     start: usize,
     j: MemberIndex,
 ) -> Option<MemberIndex>
-    requires table { IsAt hand seat.old }
+    requires table { IsAt S.mode S.lasts hand seat.old }
     requires start { start ≡ scx_begins (hand_slots hand) change.scx }
     requires waits { (k : Changer T.allows (hand_calls S.Shape M.Machine M.left_dealt hand))
         × FillsMember k seat.old.me.0.passes (L.list snaps.now) change j }
@@ -91,14 +92,14 @@ fn fill_member<S: Shape, M: CallMachine<S>, T: Shape, L: SnapList>(
 
 /// Fills the nodes that the SCX-record covers.
 #[inline(always)]
-fn fill_members<S: Shape, M: CallMachine<S>, T: Shape, L: SnapList>(
+fn fill_members<S: TableShape, M: CallMachine<S>, T: Shape, L: SnapList>(
     hand: Hand<S>,
     seat: &mut Seat<u8, SeatView>,
     snaps: &L,
     change: ScxTask,
     start: usize,
 )
-    requires table { IsAt hand seat.old }
+    requires table { IsAt S.mode S.lasts hand seat.old }
     requires start { start ≡ scx_begins (hand_slots hand) change.scx }
     requires waits { (k : Changer T.allows (hand_calls S.Shape M.Machine M.left_dealt hand))
         × FillsMember k seat.old.me.0.passes (L.list snaps.now) change MemberIndex.First }
@@ -122,7 +123,7 @@ fn fill_members<S: Shape, M: CallMachine<S>, T: Shape, L: SnapList>(
 
 /// Fills what the info of the node of this place was, and returns the next place.
 #[inline(always)]
-fn fill_seen<S: Shape, M: CallMachine<S>, T: Shape, L: SnapList>(
+fn fill_seen<S: TableShape, M: CallMachine<S>, T: Shape, L: SnapList>(
     hand: Hand<S>,
     seat: &mut Seat<u8, SeatView>,
     snaps: &L,
@@ -130,7 +131,7 @@ fn fill_seen<S: Shape, M: CallMachine<S>, T: Shape, L: SnapList>(
     start: usize,
     j: MemberIndex,
 ) -> Option<MemberIndex>
-    requires table { IsAt hand seat.old }
+    requires table { IsAt S.mode S.lasts hand seat.old }
     requires start { start ≡ scx_begins (hand_slots hand) change.scx }
     requires waits { (k : Changer T.allows (hand_calls S.Shape M.Machine M.left_dealt hand))
         × FillsSeen k seat.old.me.0.passes (L.list snaps.now) change j }
@@ -155,14 +156,14 @@ fn fill_seen<S: Shape, M: CallMachine<S>, T: Shape, L: SnapList>(
 
 /// Fills what the infos of these nodes were.
 #[inline(always)]
-fn fill_infos<S: Shape, M: CallMachine<S>, T: Shape, L: SnapList>(
+fn fill_infos<S: TableShape, M: CallMachine<S>, T: Shape, L: SnapList>(
     hand: Hand<S>,
     seat: &mut Seat<u8, SeatView>,
     snaps: &L,
     change: ScxTask,
     start: usize,
 )
-    requires table { IsAt hand seat.old }
+    requires table { IsAt S.mode S.lasts hand seat.old }
     requires start { start ≡ scx_begins (hand_slots hand) change.scx }
     requires waits { (k : Changer T.allows (hand_calls S.Shape M.Machine M.left_dealt hand))
         × FillsSeen k seat.old.me.0.passes (L.list snaps.now) change MemberIndex.First }
@@ -186,14 +187,14 @@ fn fill_infos<S: Shape, M: CallMachine<S>, T: Shape, L: SnapList>(
 
 /// Fills the words of the SCX-record, from its plan on.
 #[inline(always)]
-pub(crate) fn fill_all<S: Shape, M: CallMachine<S>, T: Shape, L: SnapList>(
+pub(crate) fn fill_all<S: TableShape, M: CallMachine<S>, T: Shape, L: SnapList>(
     hand: Hand<S>,
     seat: &mut Seat<u8, SeatView>,
     snaps: &L,
     change: ScxTask,
     start: usize,
 ) -> u64
-    requires table { IsAt hand seat.old }
+    requires table { IsAt S.mode S.lasts hand seat.old }
     requires start { start ≡ scx_begins (hand_slots hand) change.scx }
     requires waits { (k : Changer T.allows (hand_calls S.Shape M.Machine M.left_dealt hand))
         × FillsPlan k seat.old.me.0.passes (L.list snaps.now) change }
@@ -215,14 +216,14 @@ pub(crate) fn fill_all<S: Shape, M: CallMachine<S>, T: Shape, L: SnapList>(
 /// returns whether it is done. If a node could not be frozen the run waits to look whether all
 /// were.
 #[inline(always)]
-pub(crate) fn call<S: Shape, M: CallMachine<S>, T: Shape, L: SnapList>(
+pub(crate) fn call<S: TableShape, M: CallMachine<S>, T: Shape, L: SnapList>(
     hand: Hand<S>,
     seat: &mut Seat<u8, SeatView>,
     snaps: &L,
     change: ScxTask,
     help: &mut HelpRun,
 ) -> bool
-    requires table { IsAt hand seat.old }
+    requires table { IsAt S.mode S.lasts hand seat.old }
     requires waits { (k : Changer T.allows (hand_calls S.Shape M.Machine M.left_dealt hand))
         × FillsPlan k seat.old.me.0.passes (L.list snaps.now) change }
     requires begins { (help.old.scx ≡ change.scx) × (help.old.at ≡ HelpAt.Start) }

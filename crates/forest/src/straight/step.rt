@@ -12,21 +12,22 @@ ghost use Rattle.forest.specs.Slotted.{word_begins};
 use crate::call_machine::CallMachine;
 use crate::rule::CallStep;
 use crate::straight::hand::Hand;
+use crate::table_shape::TableShape;
 use crate::view::SeatView;
-use arena::{Shape, Step};
+use arena::{Step, place_from};
 use atomic_table::Seat;
 use std::marker::Brand;
 
 /// Makes the step for which a machine of this type waits, on a word whose node or SCX-record begins
 /// there, and answers what the machine may get.
 #[inline(always)]
-pub(crate) fn step_from<S: Shape, M: CallMachine<S>>(
+pub(crate) fn step_from<S: TableShape, M: CallMachine<S>>(
     hand: Hand<S>,
     seat: &mut Seat<u8, SeatView>,
     step: Step,
     start: usize,
 ) -> u64
-    requires table { IsAt hand seat.old }
+    requires table { IsAt S.mode S.lasts hand seat.old }
     requires start { start ≡ word_begins (hand_slots hand) step.word }
     requires waits { (c : Call) × (first : M) × (m : M) × IsCallOf hand c
         × Waits S.allows M.waits M.same M.left_dealt c seat.old.me.0.passes first m step }
@@ -39,7 +40,7 @@ pub(crate) fn step_from<S: Shape, M: CallMachine<S>>(
         × IsStepBehind p.known (known_of seat.new.me.0.passes) p.number.0 hand.entry.number
         step.kind }
 {
-    let at = hand.layout.place_from(start, step.word);
+    let at = place_from(start, step.word);
     let asked = CallStep {
         call: hand.number,
         step,
@@ -49,12 +50,12 @@ pub(crate) fn step_from<S: Shape, M: CallMachine<S>>(
 
 /// Makes the step for which a machine of this type waits, and answers what the machine may get.
 #[inline(always)]
-pub(crate) fn step<S: Shape, M: CallMachine<S>>(
+pub(crate) fn step<S: TableShape, M: CallMachine<S>>(
     hand: Hand<S>,
     seat: &mut Seat<u8, SeatView>,
     step: Step,
 ) -> u64
-    requires table { IsAt hand seat.old }
+    requires table { IsAt S.mode S.lasts hand seat.old }
     requires waits { (c : Call) × (first : M) × (m : M) × IsCallOf hand c
         × Waits S.allows M.waits M.same M.left_dealt c seat.old.me.0.passes first m step }
     ensures table { StaysAtTable seat.old seat.new }

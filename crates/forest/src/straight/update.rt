@@ -16,8 +16,9 @@ use crate::straight::llx::look;
 use crate::straight::reads::read;
 use crate::straight::scx::{self, ScxTask};
 use crate::straight::{guard, helps, resume, walk};
+use crate::table_shape::TableShape;
 use crate::view::SeatView;
-use arena::{NodeNo, ScxNo, Shape, Share};
+use arena::{NodeNo, ScxNo, Share};
 use arrayvec::ArrayVec;
 use atomic_table::Seat;
 use edits::{Edit, Next, Nodes, Reading, Stop, UpdateRun, Updated, Work, copied};
@@ -30,15 +31,14 @@ use template::{Found, Tree};
 /// as one with two edits would. It keeps the update's run to itself, so that the compiler knows
 /// what the run holds after each step. The size of a node is a constant again.
 #[inline(never)]
-pub(crate) fn make<S: Shape, M: CallMachine<S>, E: Edit + Copy>(
+pub(crate) fn make<S: TableShape, M: CallMachine<S>, E: Edit + Copy>(
     hand: Hand<S>,
     seat: &mut Seat<u8, SeatView>,
     edit: E,
     share: Share,
     tries: u32,
 ) -> (Updated, Share)
-    requires table { IsAt hand seat.old }
-    requires mode { hand.layout.now.mode ≡ S.mode }
+    requires table { IsAt S.mode S.lasts hand seat.old }
     requires begins { (u : Updater (hand_calls S.Shape M.Machine M.left_dealt hand) E.means)
         × UpdaterBegins u seat.old.me.0.passes (new_update edit share tries hand.number) }
     ensures { let new = new_update edit share tries hand.entry.number in
@@ -50,7 +50,7 @@ pub(crate) fn make<S: Shape, M: CallMachine<S>, E: Edit + Copy>(
 {
     let hand = Hand {
         words: hand.words,
-        layout: hand.layout,
+        plan: hand.plan,
         number: hand.number,
         size: S::node_size(),
     };
@@ -74,12 +74,12 @@ pub(crate) fn make<S: Shape, M: CallMachine<S>, E: Edit + Copy>(
 /// Makes an update: its first try inline, as long as nothing is in its way. If something is,
 /// its machine continues from there; until then the update has no place.
 #[inline(always)]
-fn call<S: Shape, M: CallMachine<S>, E: Edit + Copy>(
+fn call<S: TableShape, M: CallMachine<S>, E: Edit + Copy>(
     hand: Hand<S>,
     seat: &mut Seat<u8, SeatView>,
     run: &mut UpdateRun<E, ()>,
 ) -> Updated
-    requires table { IsAt hand seat.old }
+    requires table { IsAt S.mode S.lasts hand seat.old }
     requires begins { (u : Updater (hand_calls S.Shape M.Machine M.left_dealt hand) E.means)
         × UpdaterBegins u seat.old.me.0.passes run.old }
     ensures { Leads seat.old seat.new (update_left E.means (standing run.old UpdateAt.Start)
@@ -101,14 +101,14 @@ fn call<S: Shape, M: CallMachine<S>, E: Edit + Copy>(
 
 /// Makes what a try does next and all after it.
 #[inline(always)]
-fn try_on<S: Shape, M: CallMachine<S>, E: Edit + Copy>(
+fn try_on<S: TableShape, M: CallMachine<S>, E: Edit + Copy>(
     hand: Hand<S>,
     seat: &mut Seat<u8, SeatView>,
     run: &mut UpdateRun<E, ()>,
     found: &Found,
     next: Result<Next, Stop>,
 ) -> Updated
-    requires table { IsAt hand seat.old }
+    requires table { IsAt S.mode S.lasts hand seat.old }
     requires goes_on { StandsToTry S.Shape M.Machine M.left_dealt E.means hand found.now seat.old
         run.old next }
     ensures { TryEnds S.Shape M.Machine M.left_dealt E.means hand.entry found.now
@@ -132,14 +132,14 @@ fn try_on<S: Shape, M: CallMachine<S>, E: Edit + Copy>(
 
 /// Makes the looks that come next.
 #[inline(always)]
-fn look_on<S: Shape, M: CallMachine<S>, E: Edit + Copy>(
+fn look_on<S: TableShape, M: CallMachine<S>, E: Edit + Copy>(
     hand: Hand<S>,
     seat: &mut Seat<u8, SeatView>,
     run: &mut UpdateRun<E, ()>,
     found: &Found,
     next: Result<Next, Stop>,
 ) -> Result<Next, Stop>
-    requires table { IsAt hand seat.old }
+    requires table { IsAt S.mode S.lasts hand seat.old }
     requires goes_on { StandsToTry S.Shape M.Machine M.left_dealt E.means hand found.now seat.old
         run.old next }
     ensures { TryGoesOn S.Shape M.Machine M.left_dealt E.means hand.entry found.now
@@ -154,14 +154,14 @@ fn look_on<S: Shape, M: CallMachine<S>, E: Edit + Copy>(
 
 /// Makes the loads that come next.
 #[inline(always)]
-fn read_on<S: Shape, M: CallMachine<S>, E: Edit + Copy>(
+fn read_on<S: TableShape, M: CallMachine<S>, E: Edit + Copy>(
     hand: Hand<S>,
     seat: &mut Seat<u8, SeatView>,
     run: &mut UpdateRun<E, ()>,
     found: &Found,
     next: Result<Next, Stop>,
 ) -> Result<Next, Stop>
-    requires table { IsAt hand seat.old }
+    requires table { IsAt S.mode S.lasts hand seat.old }
     requires goes_on { StandsToTry S.Shape M.Machine M.left_dealt E.means hand found.now seat.old
         run.old next }
     ensures { TryGoesOn S.Shape M.Machine M.left_dealt E.means hand.entry found.now
@@ -176,14 +176,14 @@ fn read_on<S: Shape, M: CallMachine<S>, E: Edit + Copy>(
 
 /// Makes the fills that come next.
 #[inline(always)]
-fn fill_on<S: Shape, M: CallMachine<S>, E: Edit + Copy>(
+fn fill_on<S: TableShape, M: CallMachine<S>, E: Edit + Copy>(
     hand: Hand<S>,
     seat: &mut Seat<u8, SeatView>,
     run: &mut UpdateRun<E, ()>,
     found: &Found,
     next: Result<Next, Stop>,
 ) -> Result<Next, Stop>
-    requires table { IsAt hand seat.old }
+    requires table { IsAt S.mode S.lasts hand seat.old }
     requires goes_on { StandsToTry S.Shape M.Machine M.left_dealt E.means hand found.now seat.old
         run.old next }
     ensures { TryGoesOn S.Shape M.Machine M.left_dealt E.means hand.entry found.now
@@ -198,14 +198,14 @@ fn fill_on<S: Shape, M: CallMachine<S>, E: Edit + Copy>(
 
 /// Looks at a node.
 #[inline(always)]
-fn look_at<S: Shape, M: CallMachine<S>, E: Edit + Copy>(
+fn look_at<S: TableShape, M: CallMachine<S>, E: Edit + Copy>(
     hand: Hand<S>,
     seat: &mut Seat<u8, SeatView>,
     run: &mut UpdateRun<E, ()>,
     found: &Found,
     node: NodeNo,
 ) -> Result<Next, Stop>
-    requires table { IsAt hand seat.old }
+    requires table { IsAt S.mode S.lasts hand seat.old }
     requires tries { StandsToTry S.Shape M.Machine M.left_dealt E.means hand found.now
         seat.old run.old (Ok (Next.Look node)) }
     ensures goes_on { TryGoesOn S.Shape M.Machine M.left_dealt E.means hand.entry found.now
@@ -221,23 +221,23 @@ fn look_at<S: Shape, M: CallMachine<S>, E: Edit + Copy>(
 /// Makes the SCX, part by part: the compiler inlines no function that would grow very large, as
 /// one with all of these parts would.
 #[inline(always)]
-fn change<S: Shape, M: CallMachine<S>, E: Edit + Copy>(
+fn change<S: TableShape, M: CallMachine<S>, E: Edit + Copy>(
     hand: Hand<S>,
     seat: &mut Seat<u8, SeatView>,
     run: &mut UpdateRun<E, ()>,
     found: &Found,
     scx: ScxNo,
 ) -> Updated
-    requires table { IsAt hand seat.old }
+    requires table { IsAt S.mode S.lasts hand seat.old }
     requires tries { StandsToTry S.Shape M.Machine M.left_dealt E.means hand found.now
         seat.old run.old (Ok (Next.Change scx)) }
     ensures { TryEnds S.Shape M.Machine M.left_dealt E.means hand.entry found.now
         seat.old run.old (Ok (Next.Change scx)) seat.new run.new result }
 {
-    let copy = *hand.layout;
+    let copy = *hand.plan;
     let own = Hand {
         words: hand.words,
-        layout: &copy,
+        plan: &copy,
         number: hand.number,
         size: hand.size,
     };

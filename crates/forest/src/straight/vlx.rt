@@ -11,8 +11,9 @@ ghost use Rattle.forest.specs.StraightVlx.{LoadsFirstInfo, Validator, SeatVlxBeg
 use crate::call_machine::{CallMachine, CellShape};
 use crate::straight::hand::Hand;
 use crate::straight::step::step;
+use crate::table_shape::TableShape;
 use crate::view::SeatView;
-use arena::{Access, Kind, NodeWord, ScxNo, Shape, Step, Word};
+use arena::{Access, Kind, NodeWord, ScxNo, Step, Word};
 use atomic_table::Seat;
 use prims::{SnapList, Vlx, VlxRun};
 
@@ -20,12 +21,12 @@ use prims::{SnapList, Vlx, VlxRun};
 /// first that is not what its snapshot found, or else the last. It returns how many it has loaded,
 /// and what the last of these is.
 #[inline(always)]
-pub(crate) fn validate<S: Shape, M: CallMachine<S>, L: SnapList + Copy>(
+pub(crate) fn validate<S: TableShape, M: CallMachine<S>, L: SnapList + Copy>(
     hand: Hand<S>,
     seat: &mut Seat<u8, SeatView>,
     snaps: L,
 ) -> (usize, u64)
-    requires table { IsAt hand seat.old }
+    requires table { IsAt S.mode S.lasts hand seat.old }
     requires some { 0 < length (L.list snaps) }
     requires waits { (v : Validator (hand_calls S.Shape M.Machine M.left_dealt hand) (L.list snaps))
         × LoadsFirstInfo v seat.old.me.0.passes }
@@ -39,10 +40,10 @@ pub(crate) fn validate<S: Shape, M: CallMachine<S>, L: SnapList + Copy>(
         → result.0 ≡ length (L.list snaps) }
     ensures steps { steps_made seat.new ≡ steps_made seat.old + result.0 }
 {
-    let layout = *hand.layout;
+    let plan = *hand.plan;
     let hand = Hand {
         words: hand.words,
-        layout: &layout,
+        plan: &plan,
         number: hand.number,
         size: hand.size,
     };
@@ -71,7 +72,7 @@ pub(crate) fn call<S: CellShape, L: SnapList + Copy>(
     seat: &mut Seat<u8, SeatView>,
     snaps: L,
 ) -> Vlx
-    requires table { IsAt hand seat.old }
+    requires table { IsAt S.mode S.lasts hand seat.old }
     requires begins { (c : Call) × IsCallOf hand c
         × SeatVlxBegins L.list S.allows c seat.old.me.0.passes snaps }
     ensures table { StaysAtTable seat.old seat.new }

@@ -19,8 +19,9 @@ use crate::call_machine::CallMachine;
 use crate::straight::hand::Hand;
 use crate::straight::last_walk;
 use crate::straight::node::{Reached, descend, end_with, is_leaf, read};
+use crate::table_shape::TableShape;
 use crate::view::SeatView;
-use arena::{Head, Kind, NodeNo, NodeWord, SettledPart, Shape, Side, Slot};
+use arena::{Head, Kind, NodeNo, NodeWord, SettledPart, Side, Slot};
 use atomic_table::Seat;
 use edits::Edit;
 use order::LastTurns;
@@ -83,7 +84,7 @@ fn asked_key(goal: Goal, key: u64) -> u64
 /// first: it loads the keys in order from this slot on, up to the first that is not below the
 /// walk's, or the last.
 #[inline(always)]
-fn end_from<S: Shape, M: CallMachine<S>>(
+fn end_from<S: TableShape, M: CallMachine<S>>(
     hand: Hand<S>,
     seat: &mut Seat<u8, SeatView>,
     way: Way,
@@ -94,7 +95,7 @@ fn end_from<S: Shape, M: CallMachine<S>>(
     more: u64,
     first: Slot,
 ) -> Found
-    requires table { IsAt hand seat.old }
+    requires table { IsAt S.mode S.lasts hand seat.old }
     requires start { start ≡ node_begins (hand_slots hand) trail.node }
     requires first { first ≡ goal_slot goal more }
     requires told { HasWalked S.Shape M.Machine M.left_dealt hand seat.old
@@ -129,7 +130,7 @@ fn end_from<S: Shape, M: CallMachine<S>>(
 
 /// Ends at a leaf that begins there: among its pairs, or at once where it is above all keys.
 #[inline(always)]
-fn end<S: Shape, M: CallMachine<S>>(
+fn end<S: TableShape, M: CallMachine<S>>(
     hand: Hand<S>,
     seat: &mut Seat<u8, SeatView>,
     way: Way,
@@ -140,7 +141,7 @@ fn end<S: Shape, M: CallMachine<S>>(
     word: u64,
 ) -> Found
     requires first { (more : ℕ) → goal_slot goal more ≡ Slot.First }
-    requires table { IsAt hand seat.old }
+    requires table { IsAt S.mode S.lasts hand seat.old }
     requires stands { AsksHead (hand_slots hand) trail at start }
     requires leaf { (head_of word).leaf ≡ true }
     requires told { HasWalked S.Shape M.Machine M.left_dealt hand seat.old
@@ -248,7 +249,7 @@ fn with_turn(turns: LastTurns, counts: bool, side: Side, node: NodeNo) -> LastTu
 /// Continues after the head of a fork that begins there by its key: on a side, or to the end, where
 /// the walk goes no further.
 #[inline(always)]
-fn pass_by_key<S: Shape, M: CallMachine<S>>(
+fn pass_by_key<S: TableShape, M: CallMachine<S>>(
     hand: Hand<S>,
     seat: &mut Seat<u8, SeatView>,
     way: Way,
@@ -258,7 +259,7 @@ fn pass_by_key<S: Shape, M: CallMachine<S>>(
     at: WalkAt,
     word: u64,
 ) -> Result<(Side, bool), Found>
-    requires table { IsAt hand seat.old }
+    requires table { IsAt S.mode S.lasts hand seat.old }
     requires stands { AsksHead (hand_slots hand) trail at start }
     requires asks { IsAskedFork goal (head_of word) }
     requires told { HasWalked S.Shape M.Machine M.left_dealt hand seat.old
@@ -291,7 +292,7 @@ fn pass_by_key<S: Shape, M: CallMachine<S>>(
 /// Goes down from a fork by its key, and loads the head of the child; or ends there, where the walk
 /// goes no further.
 #[inline(always)]
-fn step_by_key<S: Shape, M: CallMachine<S>>(
+fn step_by_key<S: TableShape, M: CallMachine<S>>(
     hand: Hand<S>,
     seat: &mut Seat<u8, SeatView>,
     way: Way,
@@ -299,7 +300,7 @@ fn step_by_key<S: Shape, M: CallMachine<S>>(
     place: Reached,
     word: u64,
 ) -> Result<(Reached, u64), Found>
-    requires table { IsAt hand seat.old }
+    requires table { IsAt S.mode S.lasts hand seat.old }
     requires stands { AsksHead (hand_slots hand) place.trail place.at place.start }
     requires told { IsAskedFork goal (head_of word)
         × (w : Walker (hand_calls S.Shape M.Machine M.left_dealt hand))
@@ -336,7 +337,7 @@ fn step_by_key<S: Shape, M: CallMachine<S>>(
 /// Goes down as long as there are forks whose keys the walk loads, in a loop of its own: so its last
 /// test is whether there is one more. Answers where it is then, and the head there; or how it ends.
 #[inline(always)]
-fn descend_by_keys<S: Shape, M: CallMachine<S>>(
+fn descend_by_keys<S: TableShape, M: CallMachine<S>>(
     hand: Hand<S>,
     seat: &mut Seat<u8, SeatView>,
     way: Way,
@@ -344,7 +345,7 @@ fn descend_by_keys<S: Shape, M: CallMachine<S>>(
     first: Reached,
     head: u64,
 ) -> Result<(Reached, u64), (Found, LastTurns)>
-    requires table { IsAt hand seat.old }
+    requires table { IsAt S.mode S.lasts hand seat.old }
     requires stands { AsksHead (hand_slots hand) first.trail first.at first.start }
     requires told { (w : Walker (hand_calls S.Shape M.Machine M.left_dealt hand))
         × WalkerHasHead w seat.old.me.0.passes way goal first head }
@@ -383,7 +384,7 @@ fn descend_by_keys<S: Shape, M: CallMachine<S>>(
 /// Continues after the head of a node that begins there, which is no fork whose key the walk loads:
 /// on a side of a fork, or to the end at a leaf.
 #[inline(always)]
-fn pass_open<S: Shape, M: CallMachine<S>>(
+fn pass_open<S: TableShape, M: CallMachine<S>>(
     hand: Hand<S>,
     seat: &mut Seat<u8, SeatView>,
     way: Way,
@@ -394,7 +395,7 @@ fn pass_open<S: Shape, M: CallMachine<S>>(
     word: u64,
 ) -> Result<(Side, bool), Found>
     requires first { (more : ℕ) → goal_slot goal more ≡ Slot.First }
-    requires table { IsAt hand seat.old }
+    requires table { IsAt S.mode S.lasts hand seat.old }
     requires stands { AsksHead (hand_slots hand) trail at start }
     requires open { (head_of word).leaf ≡ false → asks_key goal (head_of word) ≡ false }
     requires told { HasWalked S.Shape M.Machine M.left_dealt hand seat.old
@@ -417,7 +418,7 @@ fn pass_open<S: Shape, M: CallMachine<S>>(
 /// The walk by this way from a place on to the leaf where a key is, or would be, or to the first
 /// leaf, and the last forks where it turned. Forks whose keys it loads have a loop of their own.
 #[inline(always)]
-fn to_goal_from<S: Shape, M: CallMachine<S>>(
+fn to_goal_from<S: TableShape, M: CallMachine<S>>(
     hand: Hand<S>,
     seat: &mut Seat<u8, SeatView>,
     way: Way,
@@ -425,7 +426,7 @@ fn to_goal_from<S: Shape, M: CallMachine<S>>(
     first: Reached,
 ) -> (Found, LastTurns)
     requires slot { (more : ℕ) → goal_slot goal more ≡ Slot.First }
-    requires table { IsAt hand seat.old }
+    requires table { IsAt S.mode S.lasts hand seat.old }
     requires stands { AsksHead (hand_slots hand) first.trail first.at first.start }
     requires waits { MayWalkFrom S.Shape M.Machine M.left_dealt hand seat.old way goal first }
     ensures table { StaysAtTable seat.old seat.new }
@@ -434,10 +435,10 @@ fn to_goal_from<S: Shape, M: CallMachine<S>>(
     ensures finds { WalkEndsFrom S.Shape M.Machine M.left_dealt hand.entry seat.old way goal first
         seat.new result.1 result.0 }
 {
-    let layout = *hand.layout;
+    let plan = *hand.plan;
     let hand = Hand {
         words: hand.words,
-        layout: &layout,
+        plan: &plan,
         number: hand.number,
         size: hand.size,
     };
@@ -465,14 +466,14 @@ fn to_goal_from<S: Shape, M: CallMachine<S>>(
 /// The walk by this way from the root to the leaf where a key is, or would be, or to the first
 /// leaf, and the last forks where it turned.
 #[inline(always)]
-pub(crate) fn to_goal<S: Shape, M: CallMachine<S>>(
+pub(crate) fn to_goal<S: TableShape, M: CallMachine<S>>(
     hand: Hand<S>,
     seat: &mut Seat<u8, SeatView>,
     way: Way,
     goal: Goal,
 ) -> (Found, LastTurns)
     requires first { (more : ℕ) → goal_slot goal more ≡ Slot.First }
-    requires table { IsAt hand seat.old }
+    requires table { IsAt S.mode S.lasts hand seat.old }
     requires waits { MayWalk S.Shape M.Machine M.left_dealt hand seat.old way goal }
     ensures table { StaysAtTable seat.old seat.new }
     ensures steps { steps_made seat.new ≤ steps_made seat.old
@@ -487,14 +488,14 @@ pub(crate) fn to_goal<S: Shape, M: CallMachine<S>>(
 /// function for each type of edit, so that the compiler has it once, and puts it in its place: what
 /// is called from several places it would not, as both walks are too much for `inline(always)`.
 #[inline(always)]
-pub(crate) fn call_from<S: Shape, M: CallMachine<S>, E: Edit>(
+pub(crate) fn call_from<S: TableShape, M: CallMachine<S>, E: Edit>(
     hand: Hand<S>,
     seat: &mut Seat<u8, SeatView>,
     way: Way,
     goal: Goal,
     first: Reached,
 ) -> (Found, LastTurns)
-    requires table { IsAt hand seat.old }
+    requires table { IsAt S.mode S.lasts hand seat.old }
     requires stands { AsksHead (hand_slots hand) first.trail first.at first.start }
     requires waits { MayWalkFrom S.Shape M.Machine M.left_dealt hand seat.old way goal first }
     ensures table { StaysAtTable seat.old seat.new }

@@ -18,18 +18,18 @@ dealt plot lay n own same is inside = subst (λ (l : Layout). own ≡ seated_pas
 
 pub new-requires-clause-seat : goal.new-requires-clause-seat
 new-requires-clause-seat g c =
-    let own = dealt (plot_at c.args.words.now.table.shared.key) c.args.layout.now c.loop-number.number c.deal-own.result.me.0.passes (names_are c.args.words.now.table.shared.key c.args.layout.now c.requires.table.0.1 c.requires.table.0.2) (c.deal-own.ensures.passes.1 ∙ ap first_of c.loop-number.invariant.left) (search rules) in
+    let own = dealt (plot_at c.args.words.now.table.shared.key) c.args.layout.now c.loop-number.number c.deal-own.result.me.0.passes (names_are c.args.words.now.table.shared.key c.args.layout.now c.requires.once.layout c.requires.once.turns) (c.deal-own.ensures.passes.1 ∙ ap first_of c.loop-number.invariant.left) (search rules) in
     (subst (λ (ps : List SeatedPass). c.deal-own.result.me.0.passes ≡ seated_pass c.loop-number.number c.args.layout.now (planting_of ps) (all_dealt c.args.layout.now c.loop-number.number) [] ∷ []) (sym own) own, c.deal-own.ensures.bare.1)
 
 pub new-requires-clause-run : goal.new-requires-clause-run
 new-requires-clause-run g c =
-    let own = dealt (plot_at c.args.words.now.table.shared.key) c.args.layout.now c.loop-number.number c.deal-own.result.me.0.passes (names_are c.args.words.now.table.shared.key c.args.layout.now c.requires.table.0.1 c.requires.table.0.2) (c.deal-own.ensures.passes.1 ∙ ap first_of c.loop-number.invariant.left) (search rules) in
+    let own = dealt (plot_at c.args.words.now.table.shared.key) c.args.layout.now c.loop-number.number c.deal-own.result.me.0.passes (names_are c.args.words.now.table.shared.key c.args.layout.now c.requires.once.layout c.requires.once.turns) (c.deal-own.ensures.passes.1 ∙ ap first_of c.loop-number.invariant.left) (search rules) in
     subst (λ (b : PlantingView). IsRun g.S.Shape.allows c.args.layout.now (Opened (opening_for b))) (sym (ap planting_of own)) c.requires.run
 
 pub loop-number-preserved : goal.loop-number-preserved
 loop-number-preserved g c =
     let planting = c.args.words.now.table.shared.key.planting in
-    let own = dealt (plot_at c.args.words.now.table.shared.key) c.args.layout.now c.loop-number.number c.deal-own.result.me.0.passes (names_are c.args.words.now.table.shared.key c.args.layout.now c.requires.table.0.1 c.requires.table.0.2) (c.deal-own.ensures.passes.1 ∙ ap first_of c.loop-number.invariant.left) (search rules) in
+    let own = dealt (plot_at c.args.words.now.table.shared.key) c.args.layout.now c.loop-number.number c.deal-own.result.me.0.passes (names_are c.args.words.now.table.shared.key c.args.layout.now c.requires.once.layout c.requires.once.turns) (c.deal-own.ensures.passes.1 ∙ ap first_of c.loop-number.invariant.left) (search rules) in
     record {
       count = search rules;
       each = λ tries j d get. get_more (λ k (d : PassView). d ≡ new_pass (ground c.args.words.now.table.shared.table_id c.args.layout.now planting tries) k) c.loop-number.passes.items c.new.result c.loop-number.number

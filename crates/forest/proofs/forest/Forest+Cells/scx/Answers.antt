@@ -90,7 +90,7 @@ pub returns-in-Err-clause-full : goal.returns-in-Err-clause-full
 returns-in-Err-clause-full c =
     let p = c.pass.inside in
     let full = c.in-Err.ensures.full in
-    rw (← c.pass.view_is) ((full.0, all_taken (pass_view p) c.in-Err.full.what c.in-Err.full.left c.pass.invariant.rest full.0), ap (λ s. pass_view (record p { share = s })) full.1)
+    rw (← c.pass.view_is) ((full.0, all_taken (pass_view p) c.in-Err.full.what c.in-Err.full.left (c.pass.invariant.few (λ map. no_map_of_cells (subst IsMap c.pass.invariant.is_mode map))) c.pass.invariant.rest full.0), ap (λ s. pass_view (record p { share = s })) full.1)
 
 pub returns-clause-says : goal.returns-clause-says
 returns-clause-says c = let some = c.in-Ok.ensures.some in

@@ -9,7 +9,7 @@ use Rattle.dict.specs.Steps.{map_left}
 use Rattle.dict.specs.Typed.{TypedAllows}
 use Rattle.dict.specs.Words.{IsWordOf}
 use Rattle.forest.specs.Passes.{Ground, taken_of}
-use Rattle.forest.specs.PassInvariant.{pass_view}
+use Rattle.forest.specs.PassInvariant.{pass_view, layout_in}
 use Rattle.forest.specs.Traces.{CallBegins, shared_nodes, weight}
 use Rattle.forest.proofs.Advances.{few_taken, weighs}
 use Rattle.forest.specs.CallSteps.{HasDictLeft}
@@ -37,10 +37,10 @@ first_turn : (g : Over) (c : goal.After-next-turn g) → DictStands g.K.WordKey.
 first_turn g c = stands (TypedAllows (IsWordOf g.K.WordKey.is_valid g.K.WordKey.word_of) (IsWordOf g.V.WordValue.is_valid g.V.WordValue.word_of)) (DictIsReady (IsWordOf g.K.WordKey.is_valid g.K.WordKey.word_of) (IsWordOf g.V.WordValue.is_valid g.V.WordValue.word_of)) (DictWaits (IsWordOf g.K.WordKey.is_valid g.K.WordKey.word_of) (IsWordOf g.V.WordValue.is_valid g.V.WordValue.word_of)) (IsSameDictCall g.K.WordKey.is_valid g.K.WordKey.word_of g.V.WordValue.is_valid g.V.WordValue.word_of) HasDictLeft (call_of c.pass.inside c.pass.invariant (taken_of (pass_view c.pass.inside))) _ c.new-run.result c.next-turn.new.self c.next-turn.result (DictAnswers g.K.WordKey.is_valid g.K.WordKey.word_of g.V.WordValue.is_valid g.V.WordValue.word_of) c.next-turn.ensures.same (λ h run is. c.next-turn.ensures.turn (call_of c.pass.inside c.pass.invariant (taken_of (pass_view c.pass.inside))) h run is) (starts g c)
 
 -- it may make no more steps than such a call
-few_steps : (g : Over) (c : goal.After-next-turn g) → weight c.next-turn.result (map_left c.next-turn.new.self.run (shared_nodes c.pass.inside.layout)) ≤ most_steps (call_in c.next-turn.new.self.run) c.next-turn.new.self.tries (nodes_by (g.B.Balance.trie g.B.FixedBalance.the) (shared_nodes c.pass.inside.layout))
+few_steps : (g : Over) (c : goal.After-next-turn g) → weight c.next-turn.result (map_left c.next-turn.new.self.run (shared_nodes (layout_in c.pass.inside))) ≤ most_steps (call_in c.next-turn.new.self.run) c.next-turn.new.self.tries (nodes_by (g.B.Balance.trie g.B.FixedBalance.the) (shared_nodes (layout_in c.pass.inside)))
 few_steps g c =
     let made = c.new-run.ensures in
-    let lay : Layout = c.pass.inside.layout in
+    let lay : Layout = (layout_in c.pass.inside) in
     let begun = starts g c in
     let near = c.next-turn.ensures.nearer (shared_nodes lay) (dict_told (IsWordOf g.K.WordKey.is_valid g.K.WordKey.word_of) (IsWordOf g.V.WordValue.is_valid g.V.WordValue.word_of) c.new-run.result (call_of c.pass.inside c.pass.invariant (taken_of (pass_view c.pass.inside))) _ None (shared_nodes lay) begun.sound begun.so.1 (few_taken (TypedAllows (IsWordOf g.K.WordKey.is_valid g.K.WordKey.word_of) (IsWordOf g.V.WordValue.is_valid g.V.WordValue.word_of)) lay (call_of c.pass.inside c.pass.invariant (taken_of (pass_view c.pass.inside))) _ refl begun.sound)) in
     let less : weight c.next-turn.result (map_left c.next-turn.new.self.run (shared_nodes lay)) ≤ map_left c.new-run.result.run (shared_nodes lay) = weighs c.next-turn.result _ _ near in
@@ -55,4 +55,4 @@ pub invariant_of-result : goal.invariant_of-result
 invariant_of-result g c = begins_open g.K.WordKey.is_valid g.K.WordKey.word_of g.V.WordValue.is_valid g.V.WordValue.word_of (g.B.Balance.trie g.B.FixedBalance.the) c.pass.inside c.pass.invariant c.new-run.result c.next-turn.new.self c.next-turn.result c.taken-call.result (named g c) c.new-run.ensures.share (first_turn g c) (few_steps g c) (asks g c) c.of-began.result (c.of-began.ensures ∙ sym c.pass.view_is)
 
 pub returns-clause-left : goal.returns-clause-left
-returns-clause-left g c = subst (λ (l : Layout). weight c.next-turn.result (map_left c.next-turn.new.self.run (shared_nodes c.pass.inside.layout)) ≤ most_steps (call_in c.next-turn.new.self.run) c.next-turn.new.self.tries (nodes_by (g.B.Balance.trie g.B.FixedBalance.the) (shared_nodes l))) (layout_of c.pass.view_is c.self.view_is c.requires.pass ∙ ap (λ (f : Ground). f.layout) c.self.view_is) (few_steps g c)
+returns-clause-left g c = subst (λ (l : Layout). weight c.next-turn.result (map_left c.next-turn.new.self.run (shared_nodes (layout_in c.pass.inside))) ≤ most_steps (call_in c.next-turn.new.self.run) c.next-turn.new.self.tries (nodes_by (g.B.Balance.trie g.B.FixedBalance.the) (shared_nodes l))) (layout_of c.pass.view_is c.self.view_is c.requires.pass ∙ ap (λ (f : Ground). f.layout) c.self.view_is) (few_steps g c)

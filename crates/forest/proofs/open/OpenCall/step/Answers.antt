@@ -14,31 +14,31 @@ pub invariant_of-self : goal.invariant_of-self
 invariant_of-self g c = is_answered g.K.WordKey.is_valid g.K.WordKey.word_of g.V.WordValue.is_valid g.V.WordValue.word_of c.self.inside c.self.invariant c.in_default.field-0 c.in_default.is
 
 pub advance-requires-clause-waits : goal.advance-requires-clause-waits
-advance-requires-clause-waits g c = (open_host g.K.WordKey.is_valid g.K.WordKey.word_of g.V.WordValue.is_valid g.V.WordValue.word_of c.self.inside c.self.invariant c.in-Ask.step c.in-Ask.is _ (of_forest c.self.invariant.kept.layout (ap (λ (o : OpenView). o.began) c.self.view_is) c.forest.view_is c.requires.forest), open_waits g.K.WordKey.is_valid g.K.WordKey.word_of g.V.WordValue.is_valid g.V.WordValue.word_of c.self.inside c.self.invariant c.in-Ask.step c.in-Ask.is)
+advance-requires-clause-waits g c = (open_host g.K.WordKey.is_valid g.K.WordKey.word_of g.V.WordValue.is_valid g.V.WordValue.word_of c.self.inside c.self.invariant c.in-Ask.step c.in-Ask.is _ (of_forest refl (ap (λ (o : OpenView). o.began) c.self.view_is) c.forest.view_is c.requires.forest), open_waits g.K.WordKey.is_valid g.K.WordKey.word_of g.V.WordValue.is_valid g.V.WordValue.word_of c.self.inside c.self.invariant c.in-Ask.step c.in-Ask.is)
 
 pub invariant_of-self-in-Ask-turn : goal.invariant_of-self-in-Ask-turn
-invariant_of-self-in-Ask-turn g c = stays_open g.K.WordKey.is_valid g.K.WordKey.word_of g.V.WordValue.is_valid g.V.WordValue.word_of c.self.inside c.self.invariant c.in-Ask.step c.in-Ask.is _ (of_forest c.self.invariant.kept.layout (ap (λ (o : OpenView). o.began) c.self.view_is) c.forest.view_is c.requires.forest) c.advance.new.seat c.advance.new.machine c.advance.result c.advance.ensures.table.0 c.advance.ensures.table.1 c.advance.ensures.one c.advance.ensures.stands c.advance.ensures.nearer c.self.inside.over (λ e. absurd (differ (sym e ∙ goes))) (λ e. rw c.in-Ask-turn.is tt)
+invariant_of-self-in-Ask-turn g c = stays_open g.K.WordKey.is_valid g.K.WordKey.word_of g.V.WordValue.is_valid g.V.WordValue.word_of c.self.inside c.self.invariant c.in-Ask.step c.in-Ask.is _ (of_forest refl (ap (λ (o : OpenView). o.began) c.self.view_is) c.forest.view_is c.requires.forest) c.advance.new.seat c.advance.new.machine c.advance.result c.advance.ensures.table.0 c.advance.ensures.table.1 c.advance.ensures.one c.advance.ensures.stands c.advance.ensures.nearer c.self.inside.over (λ e. absurd (differ (sym e ∙ goes))) (λ e. rw c.in-Ask-turn.is tt)
   where
     goes : c.self.inside.over ≡ false
     goes = rw (← c.self.view_is) at c.requires.goes
 
 pub invariant_of-self-in-Done : goal.invariant_of-self-in-Done
-invariant_of-self-in-Done g c = stays_open g.K.WordKey.is_valid g.K.WordKey.word_of g.V.WordValue.is_valid g.V.WordValue.word_of c.self.inside c.self.invariant c.in-Ask.step c.in-Ask.is _ (of_forest c.self.invariant.kept.layout (ap (λ (o : OpenView). o.began) c.self.view_is) c.forest.view_is c.requires.forest) c.advance.new.seat c.advance.new.machine c.advance.result c.advance.ensures.table.0 c.advance.ensures.table.1 c.advance.ensures.one c.advance.ensures.stands c.advance.ensures.nearer true (λ e. rw c.in-Done.is tt) (λ e. absurd (differ e))
+invariant_of-self-in-Done g c = stays_open g.K.WordKey.is_valid g.K.WordKey.word_of g.V.WordValue.is_valid g.V.WordValue.word_of c.self.inside c.self.invariant c.in-Ask.step c.in-Ask.is _ (of_forest refl (ap (λ (o : OpenView). o.began) c.self.view_is) c.forest.view_is c.requires.forest) c.advance.new.seat c.advance.new.machine c.advance.result c.advance.ensures.table.0 c.advance.ensures.table.1 c.advance.ensures.one c.advance.ensures.stands c.advance.ensures.nearer true (λ e. rw c.in-Done.is tt) (λ e. absurd (differ e))
 
 pub returns-in-Ask-turn-clause-same : goal.returns-in-Ask-turn-clause-same
-returns-in-Ask-turn-clause-same g c = rw (← c.self.view_is) (let e = same_call g.K.WordKey.is_valid g.K.WordKey.word_of g.V.WordValue.is_valid g.V.WordValue.word_of c.self.inside c.self.invariant c.in-Ask.step c.in-Ask.is _ (of_forest c.self.invariant.kept.layout (ap (λ (o : OpenView). o.began) c.self.view_is) c.forest.view_is c.requires.forest) c.advance.new.seat c.advance.new.machine c.advance.result c.advance.ensures.table.0 c.advance.ensures.table.1 c.advance.ensures.one c.advance.ensures.stands in record { began = refl; call = e.0; tries = e.1 })
+returns-in-Ask-turn-clause-same g c = rw (← c.self.view_is) (let e = same_call g.K.WordKey.is_valid g.K.WordKey.word_of g.V.WordValue.is_valid g.V.WordValue.word_of c.self.inside c.self.invariant c.in-Ask.step c.in-Ask.is _ (of_forest refl (ap (λ (o : OpenView). o.began) c.self.view_is) c.forest.view_is c.requires.forest) c.advance.new.seat c.advance.new.machine c.advance.result c.advance.ensures.table.0 c.advance.ensures.table.1 c.advance.ensures.one c.advance.ensures.stands in record { began = refl; call = e.0; tries = e.1 })
 
 pub returns-in-Done-clause-same : goal.returns-in-Done-clause-same
-returns-in-Done-clause-same g c = rw (← c.self.view_is) (let e = same_call g.K.WordKey.is_valid g.K.WordKey.word_of g.V.WordValue.is_valid g.V.WordValue.word_of c.self.inside c.self.invariant c.in-Ask.step c.in-Ask.is _ (of_forest c.self.invariant.kept.layout (ap (λ (o : OpenView). o.began) c.self.view_is) c.forest.view_is c.requires.forest) c.advance.new.seat c.advance.new.machine c.advance.result c.advance.ensures.table.0 c.advance.ensures.table.1 c.advance.ensures.one c.advance.ensures.stands in record { began = refl; call = e.0; tries = e.1 })
+returns-in-Done-clause-same g c = rw (← c.self.view_is) (let e = same_call g.K.WordKey.is_valid g.K.WordKey.word_of g.V.WordValue.is_valid g.V.WordValue.word_of c.self.inside c.self.invariant c.in-Ask.step c.in-Ask.is _ (of_forest refl (ap (λ (o : OpenView). o.began) c.self.view_is) c.forest.view_is c.requires.forest) c.advance.new.seat c.advance.new.machine c.advance.result c.advance.ensures.table.0 c.advance.ensures.table.1 c.advance.ensures.one c.advance.ensures.stands in record { began = refl; call = e.0; tries = e.1 })
 
 pub returns-in-Ask-turn-clause-lawful : goal.returns-in-Ask-turn-clause-lawful
-returns-in-Ask-turn-clause-lawful g c = stays_lawful g.K.WordKey.is_valid g.K.WordKey.word_of g.V.WordValue.is_valid g.V.WordValue.word_of c.self.inside c.self.invariant c.in-Ask.step c.in-Ask.is _ (of_forest c.self.invariant.kept.layout (ap (λ (o : OpenView). o.began) c.self.view_is) c.forest.view_is c.requires.forest) c.advance.new.seat c.advance.new.machine c.advance.result c.advance.ensures.table.0 c.advance.ensures.table.1 c.advance.ensures.one c.advance.ensures.stands
+returns-in-Ask-turn-clause-lawful g c = stays_lawful g.K.WordKey.is_valid g.K.WordKey.word_of g.V.WordValue.is_valid g.V.WordValue.word_of c.self.inside c.self.invariant c.in-Ask.step c.in-Ask.is _ (of_forest refl (ap (λ (o : OpenView). o.began) c.self.view_is) c.forest.view_is c.requires.forest) c.advance.new.seat c.advance.new.machine c.advance.result c.advance.ensures.table.0 c.advance.ensures.table.1 c.advance.ensures.one c.advance.ensures.stands
 
 pub returns-in-Ask-turn-clause-nothing : goal.returns-in-Ask-turn-clause-nothing
 returns-in-Ask-turn-clause-nothing g c = rw (← c.self.view_is) (λ none. absurd (none (open_asks g.K.WordKey.is_valid g.K.WordKey.word_of g.V.WordValue.is_valid g.V.WordValue.word_of c.self.inside c.self.invariant c.in-Ask.step c.in-Ask.is)))
 
 pub returns-in-Done-clause-lawful : goal.returns-in-Done-clause-lawful
-returns-in-Done-clause-lawful g c = stays_lawful g.K.WordKey.is_valid g.K.WordKey.word_of g.V.WordValue.is_valid g.V.WordValue.word_of c.self.inside c.self.invariant c.in-Ask.step c.in-Ask.is _ (of_forest c.self.invariant.kept.layout (ap (λ (o : OpenView). o.began) c.self.view_is) c.forest.view_is c.requires.forest) c.advance.new.seat c.advance.new.machine c.advance.result c.advance.ensures.table.0 c.advance.ensures.table.1 c.advance.ensures.one c.advance.ensures.stands
+returns-in-Done-clause-lawful g c = stays_lawful g.K.WordKey.is_valid g.K.WordKey.word_of g.V.WordValue.is_valid g.V.WordValue.word_of c.self.inside c.self.invariant c.in-Ask.step c.in-Ask.is _ (of_forest refl (ap (λ (o : OpenView). o.began) c.self.view_is) c.forest.view_is c.requires.forest) c.advance.new.seat c.advance.new.machine c.advance.result c.advance.ensures.table.0 c.advance.ensures.table.1 c.advance.ensures.one c.advance.ensures.stands
 
 pub returns-in-Done-clause-nothing : goal.returns-in-Done-clause-nothing
 returns-in-Done-clause-nothing g c = rw (← c.self.view_is) (λ none. absurd (none (open_asks g.K.WordKey.is_valid g.K.WordKey.word_of g.V.WordValue.is_valid g.V.WordValue.word_of c.self.inside c.self.invariant c.in-Ask.step c.in-Ask.is)))

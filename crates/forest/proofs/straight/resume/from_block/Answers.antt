@@ -1,4 +1,5 @@
-use Rattle.std.proofs.Common.{arith, sym, subst}
+use Rattle.std.proofs.Common.{arith, sym, subst, ◌∙◌, ap}
+use Rattle.histories.specs.Common.{Layout}
 use Rattle.template.specs.declared.walk.Found.{Found}
 use Rattle.forest.specs.StraightUpdate.{Updater, UpdaterIsBlocked}
 use Rattle.forest.specs.CallKinds.{calls}
@@ -6,7 +7,7 @@ use Rattle.forest.specs.Hands.{names}
 use Rattle.forest.proofs.StraightUpdate.{blocked_there, has_passes}
 use Rattle.forest.proofs.straight.resume.from_block.Given.{Over}
 use Rattle.forest.proofs.straight.resume.from_block.Goals.{After-copied}
-use Rattle.forest.proofs.Slotted.{names_are}
+use Rattle.forest.proofs.Slotted.{passes_are}
 use Rattle.forest.proofs.straight.resume.from_block.Goals as goal
 
 -- taken up it waits as before
@@ -14,7 +15,7 @@ blocked : (g : Over) (c : After-copied g) (u : Updater (calls g.S.Shape g.M.Mach
 blocked g c u x = subst (λ (f : Found). UpdaterIsBlocked u c.args.seat.now.me.0.passes c.take_run-machine.result f c.args.scx c.args.help.now) (sym c.copied.ensures) (blocked_there u _ c.args.run.now c.take_run-machine.result c.args.found.now c.args.scx c.args.help.now c.take_run-machine.ensures x)
 
 pub take_run-machine-requires : goal.take_run-machine-requires
-take_run-machine-requires g c = record { some = has_passes c.requires.blocked.0 _ (names_are c.args.hand.words.now.table.shared.key c.args.hand.layout.now c.args.hand.of_table.1 c.args.hand.of_table.2) }
+take_run-machine-requires g c = record { some = has_passes c.requires.blocked.0 _ (passes_are c.args.hand.words.now.table.shared.key ∙ ap (λ (l : Layout). l.passes) (c.requires.table.1).layout) }
 
 pub rest_from_block-updated-requires-clause-blocked : goal.rest_from_block-updated-requires-clause-blocked
 rest_from_block-updated-requires-clause-blocked g c = let r = c.requires.blocked in (r.0, blocked g (goal.at.rest_from_block-updated-requires-clause-blocked g c).After-copied r.0 r.1)

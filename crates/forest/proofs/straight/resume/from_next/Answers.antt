@@ -1,4 +1,5 @@
-use Rattle.std.proofs.Common.{arith, sym, subst}
+use Rattle.std.proofs.Common.{arith, sym, subst, ◌∙◌, ap}
+use Rattle.histories.specs.Common.{Layout}
 use Rattle.template.specs.declared.walk.Found.{Found}
 use Rattle.forest.specs.Traces.{shared_nodes}
 use Rattle.forest.specs.StraightUpdate.{Updater, UpdaterGoesOn}
@@ -7,7 +8,7 @@ use Rattle.forest.specs.Hands.{names}
 use Rattle.forest.proofs.StraightUpdate.{goes_there, has_passes, left_standing}
 use Rattle.forest.proofs.straight.resume.from_next.Given.{Over}
 use Rattle.forest.proofs.straight.resume.from_next.Goals.{After-copied}
-use Rattle.forest.proofs.Slotted.{names_are}
+use Rattle.forest.proofs.Slotted.{passes_are}
 use Rattle.forest.proofs.straight.resume.from_next.Goals as goal
 
 -- with a place again it continues as before
@@ -15,7 +16,7 @@ goes_on : (g : Over) (c : After-copied g) (u : Updater (calls g.S.Shape g.M.Mach
 goes_on g c u x = subst (λ (f : Found). UpdaterGoesOn u c.args.seat.now.me.0.passes c.take_run-machine.result f c.args.next) (sym c.copied.ensures) (goes_there u _ c.args.run.now c.take_run-machine.result c.args.found.now c.args.next c.take_run-machine.ensures x)
 
 pub take_run-machine-requires : goal.take_run-machine-requires
-take_run-machine-requires g c = record { some = has_passes c.requires.goes_on.0 _ (names_are c.args.hand.words.now.table.shared.key c.args.hand.layout.now c.args.hand.of_table.1 c.args.hand.of_table.2) }
+take_run-machine-requires g c = record { some = has_passes c.requires.goes_on.0 _ (passes_are c.args.hand.words.now.table.shared.key ∙ ap (λ (l : Layout). l.passes) (c.requires.table.1).layout) }
 
 pub rest_from_next-updated-requires-clause-goes_on : goal.rest_from_next-updated-requires-clause-goes_on
 rest_from_next-updated-requires-clause-goes_on g c = let r = c.requires.goes_on in (r.0, goes_on g (goal.at.rest_from_next-updated-requires-clause-goes_on g c).After-copied r.0 r.1)

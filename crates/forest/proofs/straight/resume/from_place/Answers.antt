@@ -1,4 +1,5 @@
-use Rattle.std.proofs.Common.{◌+◌, ◌≤◌, suc, subst}
+use Rattle.std.proofs.Common.{◌+◌, ◌≤◌, suc, subst, ◌∙◌, ap}
+use Rattle.histories.specs.Common.{Layout}
 use Rattle.edits.specs.Next.{standing}
 use Rattle.edits.specs.Steps.{update_left}
 use Rattle.edits.specs.declared.update.UpdateAt.{UpdateAt}
@@ -7,11 +8,11 @@ use Rattle.forest.specs.Leads.{steps_made}
 use Rattle.forest.specs.Traces.{shared_nodes}
 use Rattle.forest.specs.Hands.{names}
 use Rattle.forest.proofs.StraightUpdate.{has_passes}
-use Rattle.forest.proofs.Slotted.{names_are}
+use Rattle.forest.proofs.Slotted.{passes_are}
 use Rattle.forest.proofs.straight.resume.from_place.Goals as goal
 
 pub take_run-machine-requires : goal.take_run-machine-requires
-take_run-machine-requires g c = record { some = has_passes c.requires.waits.0 _ (names_are c.args.hand.words.now.table.shared.key c.args.hand.layout.now c.args.hand.of_table.1 c.args.hand.of_table.2) }
+take_run-machine-requires g c = record { some = has_passes c.requires.waits.0 _ (passes_are c.args.hand.words.now.table.shared.key ∙ ap (λ (l : Layout). l.passes) (c.requires.table.1).layout) }
 
 pub rest_from-updated-requires-clause-waits : goal.rest_from-updated-requires-clause-waits
 rest_from-updated-requires-clause-waits g c = let r = c.requires.waits in (r.0, rw c.take_run-machine.ensures r.1)

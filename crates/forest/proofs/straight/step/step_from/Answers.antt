@@ -1,31 +1,36 @@
-use Rattle.std.proofs.Common.{Some, refl, sym, ◌∙◌, ap, subst}
-use Rattle.std.proofs.Math.Nat.{le_of_eq}
-use Rattle.histories.specs.Common.{Layout, IsWord, History, table_size}
+use Rattle.std.proofs.Common.{◌≡◌, Some, refl, ◌∙◌, ap, arith, subst}
+use Rattle.histories.specs.Common.{Layout, IsWord, History}
 use Rattle.forest.specs.TableRule.{past_of, row}
 use Rattle.forest.specs.Traces.{Trace, known_of, others, makes}
 use Rattle.forest.proofs.Advances.{called_so, may, may_in_map, word_of, told, one_step}
 use Rattle.forest.proofs.Calls.{course_keeps}
-use Rattle.forest.proofs.Ruled.{never_lasts}
-use Rattle.forest.proofs.Slotted.{names_are, place_of_table, word_of_table}
+use Rattle.forest.specs.Hands.{hand_slots, names}
+use Rattle.slots.specs.Lasting.{table_place}
+use Rattle.forest.proofs.Slotted.{begins_low, once_by, place_from_start, word_part}
+use Rattle.forest.proofs.straight.step.step_from.Given.{Over}
 use Rattle.forest.proofs.straight.step.step_from.Goals as goal
 
+-- the step is on a word of a record that has a name
+step_word : (g : Over) (c : goal.Start g) → IsWord (names c.args.hand) c.args.step.word
+step_word g c = let w = c.requires.waits in let law = g.met.M.Machine in
+    subst (λ (l : Layout). IsWord l c.args.step.word) w.3.0 (word_of g.S.Shape.allows w.0 record { call = c.args.hand.number; step = c.args.step } w.3.1 _ _ (λ h. law.lawful w.2 w.0 h c.args.step) (called_so w.4))
+
 pub place_from-at-requires-clause-word : goal.place_from-at-requires-clause-word
-place_from-at-requires-clause-word g c = let w = c.requires.waits in let law = g.met.M.Machine in let table = c.args.hand.of_table in
-    subst (λ (l : Layout). IsWord l c.args.step.word) (w.3.0 ∙ names_are c.args.hand.words.now.table.shared.key c.args.hand.layout.now table.1 table.2) (word_of g.S.Shape.allows w.0 record { call = c.args.hand.number; step = c.args.step } w.3.1 _ _ (λ h. law.lawful w.2 w.0 h c.args.step) (called_so w.4))
+place_from-at-requires-clause-word g c = word_part (names c.args.hand) c.args.step.word (step_word g c)
 
 pub place_from-at-requires-clause-start : goal.place_from-at-requires-clause-start
-place_from-at-requires-clause-start g c = let w = c.requires.waits in let law = g.met.M.Machine in let table = c.args.hand.of_table in
-    c.requires.start ∙ sym (word_of_table c.args.hand.words.now.table.shared.key c.args.hand.layout.now table.1 table.2 c.args.step.word (subst (λ (l : Layout). IsWord l c.args.step.word) w.3.0 (word_of g.S.Shape.allows w.0 record { call = c.args.hand.number; step = c.args.step } w.3.1 _ _ (λ h. law.lawful w.2 w.0 h c.args.step) (called_so w.4))))
+place_from-at-requires-clause-start g c = rw c.requires.start (let low = begins_low (c.requires.table.1) c.args.step.word (step_word g c) in omega (arith, low))
 
 pub make-requires-clause-place : goal.make-requires-clause-place
-make-requires-clause-place g c = let w = c.requires.waits in let law = g.met.M.Machine in let table = c.args.hand.of_table in let placed = c.place_from-at.ensures in
-    place_of_table c.args.hand.words.now.table.shared.key c.args.hand.layout.now table.1 table.2 c.args.step.word c.place_from-at.result (subst (λ (l : Layout). IsWord l c.args.step.word) w.3.0 (word_of g.S.Shape.allows w.0 record { call = c.args.hand.number; step = c.args.step } w.3.1 _ _ (λ h. law.lawful w.2 w.0 h c.args.step) (called_so w.4))) placed.place placed.inside placed.apart
-
-pub make-requires-clause-table : goal.make-requires-clause-table
-make-requires-clause-table g c = let table = c.args.hand.of_table in (c.requires.table, le_of_eq (ap table_size table.1 ∙ sym table.0))
+make-requires-clause-place g c =
+    let w = c.requires.waits in let law = g.met.M.Machine in
+    let word : IsWord (names c.args.hand) c.args.step.word = subst (λ (l : Layout). IsWord l c.args.step.word) w.3.0 (word_of g.S.Shape.allows w.0 record { call = c.args.hand.number; step = c.args.step } w.3.1 _ _ (λ h. law.lawful w.2 w.0 h c.args.step) (called_so w.4)) in
+    let at : c.place_from-at.result ≡ table_place (hand_slots c.args.hand) c.args.step.word = c.place_from-at.ensures ∙ rw c.requires.start (place_from_start (hand_slots c.args.hand) c.args.step.word) in
+    record { is_word = word; is_place = at; inside = rw at ((c.requires.table.1).inside c.args.step.word word) }
 
 pub make-requires-clause-last : goal.make-requires-clause-last
-make-requires-clause-last g c = never_lasts g.S.Shape.mode g.S.Shape.allows c.args.hand.words.now.table.shared.key c.args.hand.of_table.2
+make-requires-clause-last g c = let table = (c.requires.table.1) in
+    g.met.S.TableShape.may_last c.args.hand.words.now.table.shared.key (ap (λ (l : Layout). l.mode) table.layout ∙ table.mode_is) (once_by table)
 
 pub make-requires-clause-may : goal.make-requires-clause-may
 make-requires-clause-may g c = let w = c.requires.waits in let law = g.met.M.Machine in

@@ -5,10 +5,10 @@ use Rattle.forest.proofs.Ruled.{plain_plot, ruled_allows}
 use Rattle.forest.proofs.words.Words.look_alone.Goals as goal
 
 pub load-requires : goal.load-requires
-load-requires g c = let allows = g.S.Shape.allows in let site = c.args.self.now.table.shared.key in let one = c.requires.one in let p = one.0 in let table = c.requires.table.0 in let me = c.args.seat.now.me in let at = c.place-at.result in (
-  c.requires.table.1,
-  rw table.0 c.place-at.ensures.inside,
-  ruled_allows allows site _ _ me at (λ n. n) (λ n m. Made allows look me.0.passes n m.0.passes × (m.1 ≡ me.1)) table.2
-      (moves allows (plain_plot allows site) _ _ me look at (λ n. n) (λ n. n) (head_inside site.layout) (rw table.1 c.place-at.ensures.place) (rw table.1 c.place-at.ensures.inside) (rw table.1 c.place-at.ensures.apart) (λ n. refl) (λ n. refl) p one.1
+load-requires g c = let allows = g.S.Shape.allows in let site = c.args.self.now.table.shared.key in let one = c.requires.one in let p = one.0 in let once = c.requires.once in let me = c.args.seat.now.me in let at = c.place-at.result in (
+  c.requires.table,
+  rw once.words c.place-at.ensures.inside,
+  ruled_allows allows site _ _ me at (λ n. n) (λ n m. Made allows look me.0.passes n m.0.passes × (m.1 ≡ me.1)) once.turns
+      (moves allows (plain_plot allows site) _ _ me look at (λ n. n) (λ n. n) (head_inside site.layout) (rw once.layout c.place-at.ensures.place) (rw once.layout c.place-at.ensures.inside) (rw once.layout c.place-at.ensures.apart) (λ n. refl) (λ n. refl) p one.1
       (λ others by run. look_lawful allows p.layout (history_of p.planting (others ++ p.known)) p.number.0 (rw one.2 one.3) run)),
 )
