@@ -14,6 +14,7 @@ use Rattle.dict.specs.declared.shape.Dict.{Dict}
 use Rattle.prims.specs.Shares.{share_end}
 use Rattle.forest.specs.declared.open.OpenCall.TheInside.{Inside}
 use Rattle.forest.specs.declared.pass.Pass.TheInside as pass
+use Rattle.forest.specs.declared.room.Room.{Room}
 use Rattle.forest.specs.declared.view.SeatView.{SeatView}
 use Rattle.forest.specs.CallSteps.{HasDictLeft}
 use Rattle.forest.specs.Opened.{OpenView}
@@ -40,16 +41,17 @@ open_view o = record {
 abbrev pub seat_as : PassView → Seat ℕ SeatView → Seat ℕ SeatView
 seat_as p s = record s { table_id = p.table; me = (record { passes = seated_pass p.number p.layout p.planting (dealt_up_to (share_end p.share)) p.known ∷ [] }, []) }
 
--- The fields of this pass, at a seat that has it alone, from what contracts see of it, which is not
--- when it rested last.
-abbrev pub pass_as : {T : Type 0} → PassView → Seat ℕ SeatView → pass.Inside T
-pass_as p s = record {
+-- The fields of this pass, at a seat that has it alone and with these lists, from what contracts see
+-- of it, which is not when it rested last.
+abbrev pub pass_as : {T : Type 0} → PassView → Seat ℕ SeatView → Room → pass.Inside T
+pass_as p s room = record {
   number = record { 0 = p.number };
   first_scx = record { 0 = first_scx p.layout p.number };
   share = p.share;
   seat = seat_as p s;
   blamed = p.blamed;
   birth = record { value = seat_as p s; marker = record {} };
+  room = room;
   shape = record {};
 }
 
@@ -69,7 +71,7 @@ pub record KeepsPass (began : PassView) (n : ℕ) (lay : Layout) (first_of next 
 -- what holds of every call that is held open
 pub record IsOpen {K V B : Type 0} (valid_key : K → Type 0) (key : K → ℕ) (valid_value : V → Type 0) (value : V → ℕ) (trie : Bool) (o : Inside K V B) : Type 0 where
   -- as it began its pass was one between two calls
-  pub pass : IsPass (TypedAllows (IsWordOf valid_key key) (IsWordOf valid_value value)) (map_mode trie) (pass_as {T = Dict K V B} o.began.value o.seat)
+  pub pass : IsPass (TypedAllows (IsWordOf valid_key key) (IsWordOf valid_value value)) (map_mode trie) (pass_as {T = Dict K V B} o.began.value o.seat o.room)
   -- only the seat and the share of it have changed
   pub table : o.seat.table_id ≡ o.began.value.table
   pub bare : o.seat.me.1 ≡ []

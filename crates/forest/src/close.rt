@@ -264,6 +264,7 @@ fn seat_of<S: Shape>(words: &Words<S>, layout: &Layout, pass: Pass<S>) -> Seat<u
         seat,
         blamed: _,
         birth: _,
+        room: _,
         shape: _,
     } = pass;
     let mut seat = seat;

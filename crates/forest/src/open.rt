@@ -16,6 +16,7 @@ use crate::balance::in_trie;
 use crate::blamed::Blamed;
 use crate::forest::Forest;
 use crate::pass::Pass;
+use crate::room::Room;
 use crate::steps::advance;
 use crate::straight::hand::Hand;
 use crate::table_shape::Upkeep;
@@ -49,6 +50,7 @@ pub struct OpenCall<K: WordKey, V: WordValue, B: Upkeep = ByOrder> {
     blamed: Blamed,
     /// The pass's seat as it was made, for proofs alone.
     birth: Snapshot<Seat<u8, SeatView>>,
+    room: Room,
     /// Which of the pass's calls it is.
     call: u64,
     run: DictRun<K, V>,
@@ -97,6 +99,7 @@ impl<K: WordKey, V: WordValue, B: Upkeep> Forest<Dict<K, V, B>> {
             seat,
             blamed,
             birth,
+            room,
             shape: _,
         } = pass;
         let mut run = DictRun::new(
@@ -114,6 +117,7 @@ impl<K: WordKey, V: WordValue, B: Upkeep> Forest<Dict<K, V, B>> {
             seat,
             blamed,
             birth,
+            room,
             call,
             run,
             turn,
@@ -176,6 +180,7 @@ impl<K: WordKey, V: WordValue, B: Upkeep> OpenCall<K, V, B> {
             seat,
             mut blamed,
             birth,
+            room,
             call: _,
             run,
             turn,
@@ -194,6 +199,7 @@ impl<K: WordKey, V: WordValue, B: Upkeep> OpenCall<K, V, B> {
             seat,
             blamed,
             birth,
+            room,
             shape: PhantomData,
         };
         (pass, reply)

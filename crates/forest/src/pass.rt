@@ -10,15 +10,18 @@ ghost use Rattle.forest.specs.Passes.{PassView, taken_of};
 ghost use Rattle.forest.specs.Shares.{HasFewNames};
 
 use crate::blamed::Blamed;
+use crate::room::Room;
 use crate::view::SeatView;
 use arena::{Layout, PassNo, ScxNo, Shape, Share};
 use atomic_table::Seat;
+use std::alloc::Global;
 use std::fmt;
 use std::marker::{Model, PhantomData};
 use std::snapshot::Snapshot;
 
-/// A part in a forest: a number, a share of the nodes and SCX-records, the run that it knows, and
-/// whom its calls have blamed. A thread has one, and gives it to each call.
+/// A part in a forest: a number, a share of the nodes and SCX-records, the run that it knows, whom
+/// its calls have blamed, and lists that its ordered reads fill. A thread has one, and gives it to
+/// each call.
 #[derive(Drop)]
 pub struct Pass<S: Shape> {
     pub(crate) number: PassNo,
@@ -29,6 +32,7 @@ pub struct Pass<S: Shape> {
     /// The seat as it was made. Only proofs read it, for the layout of its names: no bytes are
     /// kept.
     pub(crate) birth: Snapshot<Seat<u8, SeatView>>,
+    pub(crate) room: Room,
     pub(crate) shape: PhantomData<S>,
 }
 
@@ -45,8 +49,14 @@ impl<S: Shape> Model for Pass<S> {
 }
 
 impl<S: Shape> Pass<S> {
-    /// A pass that has made no step, at a seat of its own.
-    pub(crate) fn new(layout: &Layout, number: PassNo, seat: Seat<u8, SeatView>) -> Pass<S>
+    /// A pass that has made no step, at a seat of its own. Its lists are empty, and grow with this
+    /// allocator.
+    pub(crate) fn new(
+        alloc: Global,
+        layout: &Layout,
+        number: PassNo,
+        seat: Seat<u8, SeatView>,
+    ) -> Pass<S>
         requires seat { (seat.me.0.passes
             ≡ seated_pass number.0 layout.now (planting_of seat.me.0.passes)
             (all_dealt layout.now number.0) [] ∷ [])
@@ -74,6 +84,7 @@ impl<S: Shape> Pass<S> {
             seat,
             blamed: Blamed::new(),
             birth,
+            room: Room::new(alloc),
             shape: PhantomData,
         }
     }
