@@ -276,42 +276,35 @@ enum Told {
     Answered(u32, u64),
 }
 
-/// Whether a gate is missed once these were reported to it, one after another.
-fn misses<G: Gate>(gate: &G, told: &[Told]) -> bool {
-    for one in told {
+/// The place of the first of these after which a gate is missed, if there is one: they are reported
+/// to it one after another.
+fn missed_at<G: Gate>(gate: &G, told: &[Told]) -> Option<usize> {
+    for (place, one) in told.iter().enumerate() {
         match *one {
             Began(client, call) => gate.began(PassNo(client), call),
             Made(client, call, kind) => gate.made(PassNo(client), call, kind),
             Answered(client, call) => gate.answered(PassNo(client), call),
         }
+        if gate.missed() {
+            return Some(place);
+        }
     }
-    gate.missed()
+    None
 }
 
 /// A get of each of three clients.
 const THREE: &str = "limits,3,20,20,3\n0,get,1,,\n1,get,2,,\n2,get,3,,\nend,3,,,\n";
 
 /// A call of these that waits for what does not happen has waited too long after this many looks.
-const IN_VAIN: [(GateName, &[Told], bool); 8] = [
-    (GateName::Hold, &[Began(1, 0), Began(2, 0)], false),
-    (GateName::Hold, &[Began(0, 0)], true),
-    (GateName::Alternate, &[Began(1, 0)], true),
+const IN_VAIN: [(GateName, &[Told], Option<usize>); 7] = [
+    (GateName::Hold, &[Began(1, 0), Began(2, 0)], None),
+    (GateName::Hold, &[Began(0, 0)], Some(0)),
+    (GateName::Alternate, &[Began(1, 0)], Some(0)),
     // client 2 waits for client 1, and client 0's next call for client 2
-    (GateName::Alternate, &[Began(2, 0)], true),
-    (GateName::Alternate, &[Answered(0, 0), Began(2, 0)], true),
-    (GateName::Alternate, &[Answered(1, 0), Began(0, 1)], true),
+    (GateName::Alternate, &[Began(2, 0)], Some(0)),
+    (GateName::Alternate, &[Answered(0, 0), Began(2, 0)], Some(1)),
+    (GateName::Alternate, &[Answered(1, 0), Began(0, 1)], Some(1)),
     // a freeze of client 0's first call waits, and no other step
-    (
-        GateName::Freeze,
-        &[
-            Began(0, 0),
-            Made(0, 0, Kind::Fill),
-            Made(1, 0, Kind::Freeze),
-            Made(2, 0, Kind::Freeze),
-            Made(0, 1, Kind::Freeze),
-        ],
-        false,
-    ),
     (
         GateName::Freeze,
         &[
@@ -322,17 +315,17 @@ const IN_VAIN: [(GateName, &[Told], bool); 8] = [
             Made(0, 1, Kind::Freeze),
             Made(0, 0, Kind::Freeze),
         ],
-        true,
+        Some(5),
     ),
 ];
 
 /// The same of the gate of this name, at which a call makes three looks.
-fn misses_soon(script: &Script, name: GateName, told: &[Told]) -> bool {
+fn missed_soon(script: &Script, name: GateName, told: &[Told]) -> Option<usize> {
     match name {
-        GateName::Open => misses(&Open::new(script), told),
-        GateName::Alternate => misses(&Alternate::with_looks(script, 3), told),
-        GateName::Hold => misses(&Hold::with_looks(script, 3), told),
-        GateName::Freeze => misses(&Freeze::with_looks(script, 3), told),
+        GateName::Open => missed_at(&Open::new(script), told),
+        GateName::Alternate => missed_at(&Alternate::with_looks(script, 3), told),
+        GateName::Hold => missed_at(&Hold::with_looks(script, 3), told),
+        GateName::Freeze => missed_at(&Freeze::with_looks(script, 3), told),
     }
 }
 
@@ -340,7 +333,7 @@ fn misses_soon(script: &Script, name: GateName, told: &[Told]) -> bool {
 fn what_does_not_come_is_missed(rt: HostRuntime) -> Result<(), Fail> {
     let script = script_of(rt.alloc(), THREE)?;
     for (place, (name, told, missed)) in IN_VAIN.iter().enumerate() {
-        let found = misses_soon(&script, *name, told);
+        let found = missed_soon(&script, *name, told);
         same(&rt, (place, found), (place, *missed));
     }
     Ok(())
@@ -371,12 +364,12 @@ const NO_WAIT: [(&str, GateName, &[Told]); 9] = [
 ];
 
 /// The same of the gate of this name, at which a call looks as often as in the program.
-fn misses_late(script: &Script, name: GateName, told: &[Told]) -> bool {
+fn missed_late(script: &Script, name: GateName, told: &[Told]) -> Option<usize> {
     match name {
-        GateName::Open => misses(&Open::new(script), told),
-        GateName::Alternate => misses(&Alternate::new(script), told),
-        GateName::Hold => misses(&Hold::new(script), told),
-        GateName::Freeze => misses(&Freeze::new(script), told),
+        GateName::Open => missed_at(&Open::new(script), told),
+        GateName::Alternate => missed_at(&Alternate::new(script), told),
+        GateName::Hold => missed_at(&Hold::new(script), told),
+        GateName::Freeze => missed_at(&Freeze::new(script), told),
     }
 }
 
@@ -384,8 +377,8 @@ fn misses_late(script: &Script, name: GateName, told: &[Told]) -> bool {
 fn what_is_answered_is_not_waited_for(rt: HostRuntime) -> Result<(), Fail> {
     for (place, (text, name, told)) in NO_WAIT.iter().enumerate() {
         let script = script_of(rt.alloc(), text)?;
-        let found = misses_late(&script, *name, told);
-        same(&rt, (place, found), (place, false));
+        let found = missed_late(&script, *name, told);
+        same(&rt, (place, found), (place, None));
     }
     Ok(())
 }
@@ -399,7 +392,7 @@ fn a_missed_gate_is_told(rt: HostRuntime) -> Result<(), Fail> {
     let script = script_of(rt.alloc(), TWO)?;
     let met = Alternate::new(&script);
     let missed = Alternate::with_looks(&script, 3);
-    same(&rt, misses(&missed, &[Began(1, 0)]), true);
+    same(&rt, missed_at(&missed, &[Began(1, 0)]), Some(0));
     for (gate, row) in [(&met, "gate,met,,"), (&missed, "gate,missed,,")] {
         let mut out = Metered::new(Vec::new(rt.alloc()));
         run_at(&rt, rt.alloc(), &script, gate, &mut out)?;

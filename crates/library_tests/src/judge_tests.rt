@@ -1,5 +1,6 @@
 //! Runs that a judge finds lawful, and changed ones with their first unlawful row.
 use self::Edit::{Insert, Put, Remove};
+use self::Group::{Look, One, Says, Whole};
 use self::Made::{Abort, Commit, Fill, Freeze, Frozen, Load, Mark, Other, Update};
 use self::Part::{N, S};
 use crate::same::same;
@@ -43,147 +44,146 @@ enum Made {
     Other(u32, Kind, Part, u64, u64),
 }
 
+/// What an SCX-record says of one node: its plan, `new`, `old`, the node and what was seen there.
+#[derive(Clone, Copy)]
+struct Said(u64, u64, u64, u64, u64);
+
+/// Rows that follow each other, by one client.
+#[derive(Clone, Copy)]
+enum Group {
+    One(Made),
+    /// LLX of a node: the SCX-record that its info names, the state of that, and its left field.
+    Look(u32, u64, u64, u64, u64),
+    /// An SCX-record is filled.
+    Says(u32, u64, Said),
+    /// An SCX that nobody is in the way of, from its fills on: its record, and the second node, with
+    /// what was seen there, which it finalizes.
+    Whole(u32, u64, Said, (u64, u64)),
+}
+
 /// A run of cells.
-const RUN: [Made; 94] = [
+const RUN: [Group; 41] = [
     // row 0: client 0 puts 70 into a fresh cell left of cell 1,
-    Load(0, N(1, Marked), 0),
-    Load(0, N(1, Info), 0),
-    Load(0, S(0, State), 2),
-    Load(0, N(1, Marked), 0),
-    Load(0, N(1, Child(Left)), 0),
-    Load(0, N(1, Child(Right)), 0),
-    Load(0, N(1, Info), 0),
-    Fill(0, N(9, VALUE), 0, 70),
-    Fill(0, S(1, Plan), 0, 1),
-    Fill(0, S(1, New), 0, 9),
-    Fill(0, S(1, Old), 0, 0),
-    Fill(0, S(1, Member(0)), 0, 1),
-    Fill(0, S(1, Seen(0)), 0, 0),
-    Fill(0, S(1, Call), 0, 0),
-    Load(0, S(1, Plan), 1),
-    Load(0, S(1, Member(0)), 1),
-    Load(0, S(1, Seen(0)), 0),
-    Freeze(0, 1, 0, 1),
+    Look(0, 1, 0, 2, 0),
+    One(Fill(0, N(9, VALUE), 0, 70)),
+    Says(0, 1, Said(1, 9, 0, 1, 0)),
+    One(Load(0, S(1, Plan), 1)),
+    One(Load(0, S(1, Member(0)), 1)),
+    One(Load(0, S(1, Seen(0)), 0)),
+    One(Freeze(0, 1, 0, 1)),
     // row 18: while client 1 looks at cell 1, and helps
-    Load(1, N(1, Marked), 0),
-    Load(1, N(1, Info), 1),
-    Load(1, S(1, State), 0),
-    Load(1, N(1, Marked), 0),
-    Load(1, S(1, State), 0),
-    Load(1, S(1, Plan), 1),
-    Load(1, S(1, Member(0)), 1),
-    Load(1, S(1, Seen(0)), 0),
-    Freeze(1, 1, 1, 1),
-    Frozen(1, 1, 0),
-    Frozen(0, 1, 1),
-    Load(0, S(1, New), 9),
-    Load(0, S(1, Old), 0),
-    Update(0, 1, 0, 9),
-    Load(1, S(1, New), 9),
-    Load(1, S(1, Old), 0),
-    Update(1, 1, 9, 9),
-    Commit(1, 1, 0),
-    Commit(0, 1, 1),
+    One(Load(1, N(1, Marked), 0)),
+    One(Load(1, N(1, Info), 1)),
+    One(Load(1, S(1, State), 0)),
+    One(Load(1, N(1, Marked), 0)),
+    One(Load(1, S(1, State), 0)),
+    One(Load(1, S(1, Plan), 1)),
+    One(Load(1, S(1, Member(0)), 1)),
+    One(Load(1, S(1, Seen(0)), 0)),
+    One(Freeze(1, 1, 1, 1)),
+    One(Frozen(1, 1, 0)),
+    One(Frozen(0, 1, 1)),
+    One(Load(0, S(1, New), 9)),
+    One(Load(0, S(1, Old), 0)),
+    One(Update(0, 1, 0, 9)),
+    One(Load(1, S(1, New), 9)),
+    One(Load(1, S(1, Old), 0)),
+    One(Update(1, 1, 9, 9)),
+    One(Commit(1, 1, 0)),
+    One(Commit(0, 1, 1)),
     // row 37: client 1 covers cells 1 and 2, finalizes cell 2, and puts another cell left of cell 1
-    Load(1, N(1, Marked), 0),
-    Load(1, N(1, Info), 1),
-    Load(1, S(1, State), 1),
-    Load(1, N(1, Marked), 0),
-    Load(1, N(1, Child(Left)), 9),
-    Load(1, N(1, Child(Right)), 0),
-    Load(1, N(1, Info), 1),
-    Load(1, N(2, Marked), 0),
-    Load(1, N(2, Info), 0),
-    Load(1, S(0, State), 2),
-    Load(1, N(2, Marked), 0),
-    Load(1, N(2, Child(Left)), 0),
-    Load(1, N(2, Child(Right)), 0),
-    Load(1, N(2, Info), 0),
-    Fill(1, N(19, VALUE), 0, 80),
-    Fill(1, S(11, Plan), 0, 18),
-    Fill(1, S(11, New), 0, 19),
-    Fill(1, S(11, Old), 0, 9),
-    Fill(1, S(11, Member(0)), 0, 1),
-    Fill(1, S(11, Member(1)), 0, 2),
-    Fill(1, S(11, Seen(0)), 0, 1),
-    Fill(1, S(11, Seen(1)), 0, 0),
-    Fill(1, S(11, Call), 0, 0),
-    Load(1, S(11, Plan), 18),
-    Load(1, S(11, Member(0)), 1),
-    Load(1, S(11, Seen(0)), 1),
-    Freeze(1, 1, 1, 11),
-    Load(1, S(11, Member(1)), 2),
-    Load(1, S(11, Seen(1)), 0),
-    Freeze(1, 2, 0, 11),
-    Frozen(1, 11, 0),
-    Mark(1, 2, 0),
-    Load(1, S(11, New), 19),
-    Load(1, S(11, Old), 9),
-    Update(1, 1, 9, 19),
-    Commit(1, 11, 0),
+    Look(1, 1, 1, 1, 9),
+    Look(1, 2, 0, 2, 0),
+    One(Fill(1, N(19, VALUE), 0, 80)),
+    Whole(1, 11, Said(18, 19, 9, 1, 1), (2, 0)),
     // row 73: both clients try cell 3; client 1 wins, and client 0 aborts
-    Fill(0, N(10, VALUE), 0, 90),
-    Fill(0, S(2, Plan), 0, 1),
-    Fill(0, S(2, New), 0, 10),
-    Fill(0, S(2, Old), 0, 0),
-    Fill(0, S(2, Member(0)), 0, 3),
-    Fill(0, S(2, Seen(0)), 0, 0),
-    Fill(0, S(2, Call), 0, 0),
-    Fill(1, N(20, VALUE), 0, 91),
-    Fill(1, S(12, Plan), 0, 1),
-    Fill(1, S(12, New), 0, 20),
-    Fill(1, S(12, Old), 0, 0),
-    Fill(1, S(12, Member(0)), 0, 3),
-    Fill(1, S(12, Seen(0)), 0, 0),
-    Fill(1, S(12, Call), 0, 0),
-    Freeze(1, 3, 0, 12),
-    Freeze(0, 3, 12, 12),
-    Load(0, S(2, AllFrozen), 0),
-    Abort(0, 2, 0),
-    Frozen(1, 12, 0),
-    Update(1, 3, 0, 20),
-    Commit(1, 12, 0),
+    One(Fill(0, N(10, VALUE), 0, 90)),
+    Says(0, 2, Said(1, 10, 0, 3, 0)),
+    One(Fill(1, N(20, VALUE), 0, 91)),
+    Says(1, 12, Said(1, 20, 0, 3, 0)),
+    One(Freeze(1, 3, 0, 12)),
+    One(Freeze(0, 3, 12, 12)),
+    One(Load(0, S(2, AllFrozen), 0)),
+    One(Abort(0, 2, 0)),
+    One(Frozen(1, 12, 0)),
+    One(Update(1, 3, 0, 20)),
+    One(Commit(1, 12, 0)),
 ];
 
-/// A client puts key 5 with value 50 into an empty tree.
-const INSERT: [Made; 34] = [
-    // row 0: it walks an empty tree, and fills what it will put in
-    Load(0, N(0, Settled(Head)), 2),
-    Load(0, N(0, Child(Left)), 1),
-    Load(0, N(1, Settled(Head)), 13),
-    Fill(0, N(3, Settled(Head)), 0, 20),
-    Fill(0, N(3, Settled(Key(First))), 0, 5),
-    Fill(0, N(3, VALUE), 0, 50),
-    Fill(0, N(4, Settled(Head)), 0, 21),
-    Fill(0, N(4, Settled(Key(First))), 0, 0),
-    Fill(0, N(4, VALUE), 0, 0),
-    Fill(0, N(5, Settled(Head)), 0, 9),
-    Fill(0, N(5, Settled(Key(First))), 0, 0),
-    Fill(0, N(5, Child(Left)), 0, 3),
-    Fill(0, N(5, Child(Right)), 0, 4),
-    Fill(0, S(1, Plan), 0, 18),
-    Fill(0, S(1, New), 0, 5),
-    Fill(0, S(1, Old), 0, 1),
-    Fill(0, S(1, Member(0)), 0, 0),
-    Fill(0, S(1, Member(1)), 0, 1),
-    Fill(0, S(1, Seen(0)), 0, 0),
-    Fill(0, S(1, Seen(1)), 0, 0),
-    Fill(0, S(1, Call), 0, 0),
-    // row 21: it makes its SCX
-    Load(0, S(1, Plan), 18),
-    Load(0, S(1, Member(0)), 0),
-    Load(0, S(1, Seen(0)), 0),
-    Freeze(0, 0, 0, 1),
-    Load(0, S(1, Member(1)), 1),
-    Load(0, S(1, Seen(1)), 0),
-    Freeze(0, 1, 0, 1),
-    Frozen(0, 1, 0),
-    Mark(0, 1, 0),
-    Load(0, S(1, New), 5),
-    Load(0, S(1, Old), 1),
-    Update(0, 0, 1, 5),
-    Commit(0, 1, 0),
+/// A client puts key 5 with value 50 into an empty tree. Rows 0 to 33.
+const INSERT: [Group; 14] = [
+    // it walks an empty tree, and fills what it will put in
+    One(Load(0, N(0, Settled(Head)), 2)),
+    One(Load(0, N(0, Child(Left)), 1)),
+    One(Load(0, N(1, Settled(Head)), 13)),
+    One(Fill(0, N(3, Settled(Head)), 0, 20)),
+    One(Fill(0, N(3, Settled(Key(First))), 0, 5)),
+    One(Fill(0, N(3, VALUE), 0, 50)),
+    One(Fill(0, N(4, Settled(Head)), 0, 21)),
+    One(Fill(0, N(4, Settled(Key(First))), 0, 0)),
+    One(Fill(0, N(4, VALUE), 0, 0)),
+    One(Fill(0, N(5, Settled(Head)), 0, 9)),
+    One(Fill(0, N(5, Settled(Key(First))), 0, 0)),
+    One(Fill(0, N(5, Child(Left)), 0, 3)),
+    One(Fill(0, N(5, Child(Right)), 0, 4)),
+    Whole(0, 1, Said(18, 5, 1, 0, 0), (1, 0)),
 ];
+
+/// The loads of LLX.
+fn look(client: u32, node: u64, scx: u64, state: u64, left: u64) -> [Made; 7] {
+    [
+        Load(client, N(node, Marked), 0),
+        Load(client, N(node, Info), scx),
+        Load(client, S(scx, State), state),
+        Load(client, N(node, Marked), 0),
+        Load(client, N(node, Child(Left)), left),
+        Load(client, N(node, Child(Right)), 0),
+        Load(client, N(node, Info), scx),
+    ]
+}
+
+fn says(client: u32, scx: u64, Said(plan, new, old, node, seen): Said) -> [Made; 6] {
+    [
+        Fill(client, S(scx, Plan), 0, plan),
+        Fill(client, S(scx, New), 0, new),
+        Fill(client, S(scx, Old), 0, old),
+        Fill(client, S(scx, Member(0)), 0, node),
+        Fill(client, S(scx, Seen(0)), 0, seen),
+        Fill(client, S(scx, Call), 0, 0),
+    ]
+}
+
+/// The fills of an SCX-record of two nodes, and its SCX.
+fn whole(
+    client: u32,
+    scx: u64,
+    Said(plan, new, old, node, seen): Said,
+    (other, other_seen): (u64, u64),
+) -> [Made; 21] {
+    [
+        Fill(client, S(scx, Plan), 0, plan),
+        Fill(client, S(scx, New), 0, new),
+        Fill(client, S(scx, Old), 0, old),
+        Fill(client, S(scx, Member(0)), 0, node),
+        Fill(client, S(scx, Member(1)), 0, other),
+        Fill(client, S(scx, Seen(0)), 0, seen),
+        Fill(client, S(scx, Seen(1)), 0, other_seen),
+        Fill(client, S(scx, Call), 0, 0),
+        Load(client, S(scx, Plan), plan),
+        Load(client, S(scx, Member(0)), node),
+        Load(client, S(scx, Seen(0)), seen),
+        Freeze(client, node, seen, scx),
+        Load(client, S(scx, Member(1)), other),
+        Load(client, S(scx, Seen(1)), other_seen),
+        Freeze(client, other, other_seen, scx),
+        Frozen(client, scx, 0),
+        Mark(client, other, 0),
+        Load(client, S(scx, New), new),
+        Load(client, S(scx, Old), old),
+        Update(client, node, old, new),
+        Commit(client, scx, 0),
+    ]
+}
 
 fn word(part: Part) -> Word {
     match part {
@@ -227,11 +227,36 @@ fn row(made: Made) -> Row {
     }
 }
 
-fn push_all(rows: &mut Vec<Row>, made: &[Made]) -> Result<(), AllocError> {
+fn push_each(rows: &mut Vec<Row>, made: &[Made]) -> Result<(), AllocError> {
     for one in made {
         rows.push(row(*one))?;
     }
     Ok(())
+}
+
+fn push(rows: &mut Vec<Row>, group: Group) -> Result<(), AllocError> {
+    match group {
+        One(made) => push_each(rows, &[made]),
+        Look(client, node, scx, state, left) => {
+            push_each(rows, &look(client, node, scx, state, left))
+        }
+        Says(client, scx, said) => push_each(rows, &says(client, scx, said)),
+        Whole(client, scx, said, second) => push_each(rows, &whole(client, scx, said, second)),
+    }
+}
+
+fn push_all(rows: &mut Vec<Row>, groups: &[Group]) -> Result<(), AllocError> {
+    for group in groups {
+        push(rows, *group)?;
+    }
+    Ok(())
+}
+
+/// The rows of these groups.
+fn rows_of(alloc: Global, groups: &[Group]) -> Result<Vec<Row>, AllocError> {
+    let mut rows = Vec::new(alloc);
+    push_all(&mut rows, groups)?;
+    Ok(rows)
 }
 
 /// A table whose clients have `records` nodes and SCX-records each.
@@ -266,11 +291,10 @@ fn judged(
 }
 
 /// A judge takes in these rows, each of them lawful.
-fn take_in(rt: &impl process::Abort, judge: &mut Judge, rows: &[Made]) -> Result<(), Fail> {
-    for made in rows {
-        let row = row(*made);
-        assert!(rt; judge.is_lawful(&row));
-        judge.make(&row)?;
+fn take_in(rt: &impl process::Abort, judge: &mut Judge, rows: &[Row]) -> Result<(), Fail> {
+    for row in rows {
+        assert!(rt; judge.is_lawful(row));
+        judge.make(row)?;
     }
     Ok(())
 }
@@ -289,7 +313,7 @@ fn remembers(rt: &impl process::Abort, judge: &Judge) {
 #[test]
 fn a_judge_remembers_a_run(rt: HostRuntime) -> Result<(), Fail> {
     let mut judge = Judge::new(rt.alloc(), &cells()?)?;
-    take_in(&rt, &mut judge, &RUN)?;
+    take_in(&rt, &mut judge, &rows_of(rt.alloc(), &RUN)?)?;
     same(&rt, judge.get(Word::Scx(ScxNo(12), State)), 1);
     same(&rt, (judge.entries(), judge.taken()), (3, 4));
     remembers(&rt, &judge);
@@ -408,12 +432,15 @@ const ENDS: [Judged; 18] = [
 /// The run of cells with a change.
 fn edited(alloc: Global, edit: Edit) -> Result<Vec<Row>, AllocError> {
     let mut rows = Vec::new(alloc);
-    for (place, made) in RUN.iter().enumerate() {
+    for (place, old) in rows_of(alloc, &RUN)?.iter().enumerate() {
         match edit {
             Put(at, new) if at == place => rows.push(row(new))?,
-            Insert(at, new) if at == place => push_all(&mut rows, &[new, *made])?,
+            Insert(at, new) if at == place => {
+                rows.push(row(new))?;
+                rows.push(*old)?;
+            }
             Remove(at) if at == place => {}
-            _ => rows.push(row(*made))?,
+            _ => rows.push(*old)?,
         }
     }
     Ok(rows)
@@ -435,10 +462,6 @@ fn changed_runs_are_judged(rt: HostRuntime) -> Result<(), Fail> {
     }
     Ok(())
 }
-
-/// What an SCX-record says of one node: its plan, `new`, `old`, the node and what was seen there.
-#[derive(Clone, Copy)]
-struct Said(u64, u64, u64, u64, u64);
 
 /// What the judge says of an SCX-record that is begun after the whole run, and how it is begun:
 /// what it says of a first and of a second node, and what its freeze finds.
@@ -481,21 +504,15 @@ const BEGINS: [Begun; 22] = [
 fn begin(alloc: Global, begun: &Begun) -> Result<Vec<Row>, AllocError> {
     let (_, said, (second, seen), found) = *begun;
     let after = if found == said.4 { 3 } else { found };
+    let mut run = rows_of(alloc, &RUN)?;
+    push_each(&mut run, &[Fill(0, N(11, VALUE), 0, 90)])?;
+    push_each(&mut run, &says(0, 3, said))?;
     let rows = [
-        Fill(0, N(11, VALUE), 0, 90),
-        Fill(0, S(3, Plan), 0, said.0),
-        Fill(0, S(3, New), 0, said.1),
-        Fill(0, S(3, Old), 0, said.2),
-        Fill(0, S(3, Member(0)), 0, said.3),
-        Fill(0, S(3, Seen(0)), 0, said.4),
-        Fill(0, S(3, Call), 0, 0),
         Fill(0, S(3, Member(1)), 0, second),
         Fill(0, S(3, Seen(1)), 0, seen),
         Freeze(0, said.3, found, after),
     ];
-    let mut run = Vec::new(alloc);
-    push_all(&mut run, &RUN)?;
-    push_all(&mut run, &rows)?;
+    push_each(&mut run, &rows)?;
     Ok(run)
 }
 
@@ -510,31 +527,20 @@ fn begins_are_judged(rt: HostRuntime) -> Result<(), Fail> {
 }
 
 /// A client sets cell 1 after doing so `number` times, when its left field holds this.
-fn set_again(number: u32, left: u64) -> [Made; 20] {
+fn set_again(number: u32, left: u64) -> [Group; 9] {
     let state = if number == 0 { 2 } else { 1 };
     let number = u64::from(number);
     let (scx, node) = (number + 1, number + 9);
     [
-        Load(0, N(1, Marked), 0),
-        Load(0, N(1, Info), number),
-        Load(0, S(number, State), state),
-        Load(0, N(1, Marked), 0),
-        Load(0, N(1, Child(Left)), left),
-        Load(0, N(1, Child(Right)), 0),
-        Load(0, N(1, Info), number),
-        Fill(0, N(node, VALUE), 0, 70),
-        Fill(0, S(scx, Plan), 0, 1),
-        Fill(0, S(scx, New), 0, node),
-        Fill(0, S(scx, Old), 0, left),
-        Fill(0, S(scx, Member(0)), 0, 1),
-        Fill(0, S(scx, Seen(0)), 0, number),
-        Fill(0, S(scx, Call), 0, 0),
-        Load(0, S(scx, Plan), 1),
-        Freeze(0, 1, number, scx),
-        Frozen(0, scx, 0),
-        Load(0, S(scx, New), node),
-        Update(0, 1, left, node),
-        Commit(0, scx, 0),
+        Look(0, 1, number, state, left),
+        One(Fill(0, N(node, VALUE), 0, 70)),
+        Says(0, scx, Said(1, node, left, 1, number)),
+        One(Load(0, S(scx, Plan), 1)),
+        One(Freeze(0, 1, number, scx)),
+        One(Frozen(0, scx, 0)),
+        One(Load(0, S(scx, New), node)),
+        One(Update(0, 1, left, node)),
+        One(Commit(0, scx, 0)),
     ]
 }
 
@@ -542,17 +548,14 @@ fn set_again(number: u32, left: u64) -> [Made; 20] {
 /// new node is filled late: it is named with that node.
 #[test]
 fn long_runs_and_inserts_are_judged(rt: HostRuntime) -> Result<(), Fail> {
-    let mut rows = Vec::new(rt.alloc());
-    push_all(&mut rows, &set_again(0, 0))?;
+    let mut rows = rows_of(rt.alloc(), &set_again(0, 0))?;
     for number in 1..120 {
         push_all(&mut rows, &set_again(number, u64::from(number) + 8))?;
     }
     let cells = layout(Mode::Records, 1, 300)?;
     judged(&rt, rt.alloc(), &cells, (0, rows.as_slice()), None)?;
-    let mut rows = Vec::new(rt.alloc());
-    push_all(&mut rows, &INSERT)?;
-    push_all(&mut rows, &[Fill(0, N(3, VALUE), 50, 51)])?;
+    let mut rows = rows_of(rt.alloc(), &INSERT)?;
+    push_each(&mut rows, &[Fill(0, N(3, VALUE), 50, 51)])?;
     let tree = layout(Mode::Tree, 1, 10)?;
-    let late = Some(INSERT.len());
-    judged(&rt, rt.alloc(), &tree, (1, rows.as_slice()), late)
+    judged(&rt, rt.alloc(), &tree, (1, rows.as_slice()), Some(34))
 }
