@@ -79,7 +79,7 @@ impl<'a> Action<'a> {
             }
             Action::Run { trie, gate } => {
                 let mut script = Metered::new(first);
-                run_over(rt, alloc, trie, gate, &mut script, &mut out, &mut err)
+                run_over(rt, trie, gate, &mut script, &mut out, &mut err)
             }
             alone => alone.over_one(alloc, first, &mut out, &mut err),
         };

@@ -73,7 +73,6 @@ fn run_file<R: Files + AllocGlobal + Threads + Wait + Sync, O: Write, E: Write>(
         Ok(script) => {
             run_over(
                 rt,
-                rt.alloc(),
                 trie,
                 gate,
                 &mut Metered::new(script),

@@ -147,7 +147,6 @@ fn run<R: Files + Input + Clock + AllocGlobal + Threads + Wait + Sync, O: Write>
     let (mut out, mut err) = (Metered::new(out), Vec::new(alloc));
     ended(run_over(
         rt,
-        alloc,
         mode == Mode::Trie,
         gate,
         &mut script,

@@ -19,13 +19,12 @@ use std::sync::Wait;
 use std::thread::Threads;
 use texts::Metered;
 
-/// Runs a script of a map, a tree or a trie, with a thread for each client and the gate of this name,
-/// and prints the outcome to `out`; a fault goes to `err` as one line. Answers the exit status: 0, 1 where the
-/// script is refused, 2 for a gate of no such name, 3 for want of memory, 4 where a read or a write
-/// failed. A refused script, or gate, leaves `out` as it was.
-pub fn run_over<R: Threads + Wait + Sync, S: Read, O: Write, E: Write>(
+/// Runs a script of a map, a tree or a trie, with a thread for each client and the gate of this
+/// name, and prints the outcome to `out`; a fault goes to `err` as one line. Answers the exit
+/// status: 0, 1 where the script is refused, 2 for a gate of no such name, 3 for want of memory, 4
+/// where a read or a write failed. A refused script, or gate, leaves `out` as it was.
+pub fn run_over<R: AllocGlobal + Threads + Wait + Sync, S: Read, O: Write, E: Write>(
     rt: &R,
-    alloc: Global,
     trie: bool,
     gate: &str,
     script: &mut Metered<S>,
@@ -46,7 +45,7 @@ pub fn run_over<R: Threads + Wait + Sync, S: Read, O: Write, E: Write>(
     ensures refused { (result ≡ 1) ⊎ (result ≡ 2) → out.new ≡ out.old }
     ensures status { result ≤ 4 }
 {
-    match run_gated(rt, alloc, trie, gate, script, out) {
+    match run_gated(rt, rt.alloc(), trie, gate, script, out) {
         Ok(()) => 0,
         Err(fault) => fault.print(err),
     }
@@ -96,7 +95,8 @@ fn mode_of(trie: bool) -> Mode
     if trie { Mode::Trie } else { Mode::Tree }
 }
 
-/// Runs a script of a map with a thread for each client and this gate, and prints the outcome to `out`.
+/// Runs a script of a map with a thread for each client and this gate, and prints the outcome to
+/// `out`.
 pub fn run_at<R: Threads + Wait + Sync, G: Gate, O: Write>(
     rt: &R,
     alloc: Global,
