@@ -53,7 +53,7 @@ begun_with p x number dealt holds = record { planting = planting_of p.seat.me.0.
 
 -- the lists that it keeps for its reads say nothing of it
 pub in_room : {allows : Layout → History → ℕ → Type 0} {mode : Mode} {T : Type 0} (p : Inside T) → IsPass allows mode p → (room : Room) → IsPass allows mode (record p { room = room })
-in_room p x room = record { seat = x.seat; bare = x.bare; is_mode = x.is_mode; is_pass = x.is_pass; sound = x.sound; rest = x.rest; dealt = x.dealt; blamed = x.blamed }
+in_room p x room = x
 
 -- the pass with its seat as it is now
 abbrev pub seated : {T : Type 0} → Inside T → Seat ℕ SeatView → Inside T

@@ -41,8 +41,8 @@ open_view o = record {
 abbrev pub seat_as : PassView → Seat ℕ SeatView → Seat ℕ SeatView
 seat_as p s = record s { table_id = p.table; me = (record { passes = seated_pass p.number p.layout p.planting (dealt_up_to (share_end p.share)) p.known ∷ [] }, []) }
 
--- The fields of this pass, at a seat that has it alone and with these lists, from what contracts see
--- of it, which is not when it rested last.
+-- The fields of this pass, at a seat that has it alone and with these lists, from what contracts
+-- see of it, which is not when it rested last.
 abbrev pub pass_as : {T : Type 0} → PassView → Seat ℕ SeatView → Room → pass.Inside T
 pass_as p s room = record {
   number = record { 0 = p.number };

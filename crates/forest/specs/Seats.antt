@@ -3,7 +3,7 @@ use Rattle.std.specs.Prelude.{◌≡◌, ℕ}
 use Rattle.atomic_table.specs.declared.shared.Seat.{Seat}
 use Rattle.forest.specs.declared.view.SeatView.{SeatView}
 use Rattle.forest.specs.declared.words.Words.{Words}
-use Rattle.forest.specs.Traces.{memory_of}
+use Rattle.forest.specs.Traces.{kept_of}
 
 -- the seat is at the table that has these words
 abbrev pub IsSeatAt : {S : Type 0} → Words S → Seat ℕ SeatView → Type 0
@@ -15,4 +15,4 @@ IsSameSeat old new = (new.table_id ≡ old.table_id) × (new.me.1 ≡ old.me.1)
 
 -- so it is, and its pass remembers what it did
 abbrev pub StaysAtTable : Seat ℕ SeatView → Seat ℕ SeatView → Type 0
-StaysAtTable old new = (new.table_id ≡ old.table_id) × (new.me.1 ≡ old.me.1) × (memory_of new.me.0.passes ≡ memory_of old.me.0.passes)
+StaysAtTable old new = (new.table_id ≡ old.table_id) × (new.me.1 ≡ old.me.1) × (kept_of new.me.0.passes ≡ kept_of old.me.0.passes)

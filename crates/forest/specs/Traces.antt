@@ -105,6 +105,10 @@ abbrev pub memory_of : List SeatedPass → PassMemory
 memory_of [] = no_memory
 memory_of (p ∷ ps) = p.memory
 
+-- what it is told of its table, and remembers
+abbrev pub kept_of : List SeatedPass → PlantingView × PassMemory
+kept_of ps = (planting_of ps, memory_of ps)
+
 abbrev pub rest_at : List SeatedPass → History
 rest_at ps = history_of (planting_of ps) (memory_of ps).rested
 

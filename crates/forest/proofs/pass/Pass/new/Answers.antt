@@ -16,7 +16,7 @@ use Rattle.forest.proofs.pass.Pass.new.Given.{Over}
 use Rattle.forest.proofs.pass.Pass.new.Goals as goal
 
 -- the layout of its names is that of the table
-layout_is : (g : Over) (c : goal.After-new g) → layout_at c.of-birth.result.value.me.0.passes ≡ c.args.layout.now
+layout_is : (g : Over) (c : goal.After-new-2 g) → layout_at c.of-birth.result.value.me.0.passes ≡ c.args.layout.now
 layout_is g c = ap (λ (s : Seat ℕ SeatView). layout_at s.me.0.passes) c.of-birth.ensures ∙ ap layout_at c.requires.seat.0
 
 pub invariant_of-result : goal.invariant_of-result
@@ -25,7 +25,7 @@ invariant_of-result g c = rw (layout_is g c) record {
   bare = c.requires.seat.1;
   is_mode = c.requires.mode;
   is_pass = c.requires.pass;
-  first_is = c.first_scx.ensures;
+  first_is = c.from.ensures ∙ c.first_scx.ensures;
   few = λ none. c.requires.few;
   sound = subst (IsRun g.S.Shape.allows c.args.layout.now) (sym begins) c.requires.run;
   rest = rw c.of.ensures.whole (subst (λ h. IsBetweenCalls c.args.layout.now c.args.number.0 h (whole_share c.args.layout.now c.args.number.0)) (sym begins) (begins_at_rest c.args.layout.now (opening_for (planting_of c.args.seat.me.0.passes)) c.args.number.0 c.requires.run.lawful));

@@ -5,8 +5,8 @@ use Rattle.forest.proofs.Hosts.{hosted_word}
 use Rattle.forest.proofs.StraightUpdate.{fills_end, node_steps}
 use Rattle.forest.proofs.straight.fresh_nodes.fill_node.Goals as goal
 
-pub node_start-start-requires : goal.node_start-start-requires
-node_start-start-requires g c = let r = c.requires.tries in rw c.at.ensures (hosted_word r.0 _ g.met.M.Machine.lawful _ _ r.1)
+pub node_start-start-requires-clause-node : goal.node_start-start-requires-clause-node
+node_start-start-requires-clause-node g c = let r = c.requires.tries in rw c.at.ensures (hosted_word r.0 _ g.met.M.Machine.lawful _ _ r.1)
 
 pub fill_words-requires-clause-fresh : goal.fill_words-requires-clause-fresh
 fill_words-requires-clause-fresh g c = (rw c.at.ensures at c.node_start-start.ensures.start, c.piece-piece.ensures)

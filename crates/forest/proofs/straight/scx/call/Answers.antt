@@ -7,8 +7,8 @@ use Rattle.forest.specs.Inside.{InnerWaits}
 use Rattle.forest.proofs.Inside.{waits_within}
 use Rattle.forest.proofs.straight.scx.call.Goals as goal
 
-pub scx_start-start-requires : goal.scx_start-start-requires
-scx_start-start-requires g c = let r = c.requires.waits in (waits_within r.0 _ g.met.M.Machine.lawful _ _ r.1).0
+pub scx_start-start-requires-clause-scx : goal.scx_start-start-requires-clause-scx
+scx_start-start-requires-clause-scx g c = let r = c.requires.waits in (waits_within r.0 _ g.met.M.Machine.lawful _ _ r.1).0
 
 pub call-requires-clause-waits : goal.call-requires-clause-waits
 call-requires-clause-waits g c = let r = c.requires.waits in let k = r.0 in (helper k (g.L.SnapList.list c.args.snaps.now) c.args.change, to_help k (g.L.SnapList.list c.args.snaps.now) c.args.change _ c.args.help.now c.fill_all.result c.requires.begins.0 c.requires.begins.1 (c.fill_all.ensures.to k r.1))

@@ -28,8 +28,8 @@ helps : (g : Over) (c : After-fill_all g) (u : Updater (calls g.S.Shape g.M.Mach
 helps g c u x = to_help (changer u c.args.run.now c.args.found.now) c.as_slice-snaps.result.now (change_of g c) _ c.new-help.result c.fill_all.result c.new-help.ensures.scx c.new-help.ensures.start
     (c.fill_all.ensures.to (changer u c.args.run.now c.args.found.now) (begins_change u _ c.args.run.now c.args.found.now c.args.scx c.as_slice-snaps.result.now c.args.run.now.work.plan c.old.result c.fresh.result c.as_slice-snaps.ensures.value refl c.old.ensures c.fresh.ensures x))
 
-pub scx_start-start-requires : goal.scx_start-start-requires
-scx_start-start-requires g c = let r = c.requires.tries in let u = r.0 in
+pub scx_start-start-requires-clause-scx : goal.scx_start-start-requires-clause-scx
+scx_start-start-requires-clause-scx g c = let r = c.requires.tries in let u = r.0 in
     (waits_within (changer u c.args.run.now c.args.found.now) _ g.met.M.Machine.lawful _ _ (begins_change u _ c.args.run.now c.args.found.now c.args.scx c.as_slice-snaps.result.now c.args.run.now.work.plan c.old.result c.fresh.result c.as_slice-snaps.ensures.value refl c.old.ensures c.fresh.ensures r.1)).0
 
 pub fill_all-requires-clause-waits : goal.fill_all-requires-clause-waits

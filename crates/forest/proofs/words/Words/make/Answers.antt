@@ -3,7 +3,7 @@ use Rattle.histories.specs.Common.{History, Layout}
 use prog.Atomic.{either}
 use Rattle.forest.specs.LastingRule.{MayStepOn}
 use Rattle.forest.specs.TableRule.{Made}
-use Rattle.forest.specs.Traces.{memory_of}
+use Rattle.forest.specs.Traces.{kept_of}
 use Rattle.forest.specs.declared.rule.CallStep.{CallStep}
 use Rattle.forest.specs.declared.view.SeatedPass.{SeatedPass}
 use Rattle.forest.proofs.Ruled.{ruled_moves, same_pass}
@@ -38,14 +38,14 @@ compare_exchange-requires g c = let site = c.args.self.now.table.shared.key in l
 )
 
 -- a step changes nothing that the pass remembers
-memory_kept : {allows : Layout → History → ℕ → Type 0} {said : CallStep} {ps qs : List SeatedPass} {n : ℕ} → Made allows said ps n qs → memory_of qs ≡ memory_of ps
-memory_kept m = ap memory_of m.is ∙ sym (ap memory_of m.was)
+all_kept : {allows : Layout → History → ℕ → Type 0} {said : CallStep} {ps qs : List SeatedPass} {n : ℕ} → Made allows said ps n qs → kept_of qs ≡ kept_of ps
+all_kept m = ap kept_of m.is ∙ sym (ap kept_of m.was)
 
 pub returns-in-Load-clause-table : goal.returns-in-Load-clause-table
-returns-in-Load-clause-table g c = let m : Made g.S.Shape.allows g.J.Says.said c.args.seat.now.me.0.passes c.load.result c.load.new.seat.me.0.passes = c.load.ensures.2.0 in (c.load.ensures.0, c.load.ensures.2.1, memory_kept m)
+returns-in-Load-clause-table g c = let m : Made g.S.Shape.allows g.J.Says.said c.args.seat.now.me.0.passes c.load.result c.load.new.seat.me.0.passes = c.load.ensures.2.0 in (c.load.ensures.0, c.load.ensures.2.1, all_kept m)
 
 pub returns-in-Store-clause-table : goal.returns-in-Store-clause-table
-returns-in-Store-clause-table g c = let m : Made g.S.Shape.allows g.J.Says.said c.args.seat.now.me.0.passes c.in-Store.new c.store.new.seat.me.0.passes = c.store.ensures.2.0 in (c.store.ensures.0, c.store.ensures.2.1, memory_kept m)
+returns-in-Store-clause-table g c = let m : Made g.S.Shape.allows g.J.Says.said c.args.seat.now.me.0.passes c.in-Store.new c.store.new.seat.me.0.passes = c.store.ensures.2.0 in (c.store.ensures.0, c.store.ensures.2.1, all_kept m)
 
 pub returns-in-Exchange-clause-table : goal.returns-in-Exchange-clause-table
-returns-in-Exchange-clause-table g c = let m : Made g.S.Shape.allows g.J.Says.said c.args.seat.now.me.0.passes c.compare_exchange.result c.compare_exchange.new.seat.me.0.passes = c.compare_exchange.ensures.2.0 in (c.compare_exchange.ensures.0, c.compare_exchange.ensures.2.1, memory_kept m)
+returns-in-Exchange-clause-table g c = let m : Made g.S.Shape.allows g.J.Says.said c.args.seat.now.me.0.passes c.compare_exchange.result c.compare_exchange.new.seat.me.0.passes = c.compare_exchange.ensures.2.0 in (c.compare_exchange.ensures.0, c.compare_exchange.ensures.2.1, all_kept m)
