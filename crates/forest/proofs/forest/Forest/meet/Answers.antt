@@ -7,10 +7,10 @@ use Rattle.forest.proofs.Slotted.{names_are, once_by}
 use Rattle.forest.proofs.forest.Forest.meet.Goals as goal
 
 pub meet-requires-clause-first : goal.meet-requires-clause-first
-meet-requires-clause-first g c = let e = layout_of c.one.view_is c.self.view_is c.requires.one ∙ names_are c.self.inside.words.table.shared.key c.self.inside.plan.layout c.self.invariant.0.layout (once_by c.self.invariant.0 g.S.TableOnce.once) in record { pass = _; is = c.one.invariant.seat.alone; layout = e; is_pass = rw (← e) c.one.invariant.is_pass }
+meet-requires-clause-first g c = let e = layout_of c.one.view_is c.self.view_is c.requires.one ∙ names_are c.self.inside.words.table.shared.key c.self.inside.plan.layout c.self.invariant.0.layout (once_by c.self.invariant.0 g.met.S.TableOnce.once) in record { pass = _; is = c.one.invariant.seat.alone; layout = e; is_pass = rw (← e) c.one.invariant.is_pass }
 
 pub meet-requires-clause-second : goal.meet-requires-clause-second
-meet-requires-clause-second g c = let e = layout_of c.other.view_is c.self.view_is c.requires.other ∙ names_are c.self.inside.words.table.shared.key c.self.inside.plan.layout c.self.invariant.0.layout (once_by c.self.invariant.0 g.S.TableOnce.once) in record { pass = _; is = c.other.invariant.seat.alone; layout = e; is_pass = rw (← e) c.other.invariant.is_pass }
+meet-requires-clause-second g c = let e = layout_of c.other.view_is c.self.view_is c.requires.other ∙ names_are c.self.inside.words.table.shared.key c.self.inside.plan.layout c.self.invariant.0.layout (once_by c.self.invariant.0 g.met.S.TableOnce.once) in record { pass = _; is = c.other.invariant.seat.alone; layout = e; is_pass = rw (← e) c.other.invariant.is_pass }
 
 pub invariant_of-one : goal.invariant_of-one
 invariant_of-one g c = let m = have_met c.one.inside c.other.inside c.one.invariant c.other.invariant c.meet.new.one c.meet.new.other c.meet.ensures.met in
