@@ -15,11 +15,11 @@ loop-pass-preserved c =
     let of_arc : IsHeldOf c.args.forest handle.value = subst (λ (f : Ground). IsHeldOf f handle.value) c.in_ok-forest.ensures.ok told.of_forest in
     record {
       count = (
-        let len = c.in_ok-push.ensures.len in
-        let count = inv.count in
-        let more : length (c.loop-pass.yielded ++ c.in-Some.pass ∷ []) ≡ length c.loop-pass.yielded + 1 = length-append c.loop-pass.yielded (c.in-Some.pass ∷ []) in
-        omega (arith, len, count, more)
-      );
+          let len = c.in_ok-push.ensures.len in
+          let count = inv.count in
+          let more : length (c.loop-pass.yielded ++ c.in-Some.pass ∷ []) ≡ length c.loop-pass.yielded + 1 = length-append c.loop-pass.yielded (c.in-Some.pass ∷ []) in
+          omega (arith, len, count, more)
+          );
       of_forest = all_held_of old new c.of.result items handle.value c.of.ensures c.args.forest of_arc inv.of_forest;
       held = next_held old new c.of.result items handle.value c.of.ensures c.loop-pass.yielded c.in-Some.pass told.held inv.held;
     }
