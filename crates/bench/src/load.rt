@@ -28,10 +28,7 @@ const LIMITS: Limits = Limits {
 const LOOKS: u32 = 100;
 
 /// Makes a dictionary of as many pairs as the task has rounds, which is timed, and looks some up.
-pub fn run<R: Clock + AllocGlobal, B: FilledOnce>(
-    rt: &R,
-    task: Task,
-) -> Result<Repetition, Fault> {
+pub fn run<R: Clock + AllocGlobal, B: FilledOnce>(rt: &R, task: Task) -> Result<Repetition, Fault> {
     let alloc = rt.alloc();
     let pairs = rising(alloc, task.calls)?;
     let start = now(rt)?;

@@ -12,8 +12,8 @@ ghost use Rattle.conclusions.specs.Together.{HasReadValue, HasSet, HasSetAt, IsU
 ghost use Rattle.conclusions.specs.Tries.{IsLow};
 
 use regnubas::{
-    Dict, FilledOnce, Forest, Limits, NewFault, PairsFault, Pass, Trie, UpdateFault,
-    map_laws_hold, trie_laws_hold, version_laws_hold,
+    Dict, FilledOnce, Forest, Limits, NewFault, PairsFault, Pass, Trie, UpdateFault, map_laws_hold,
+    trie_laws_hold, version_laws_hold,
 };
 use std::alloc::Global;
 

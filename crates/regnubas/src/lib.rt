@@ -57,9 +57,7 @@ mod laws;
 pub use arena::{
     BadLimits, Full, Kind, Limits, NoMemory, NodeNo, PassNo, Resource, ScxNo, Shape, Side,
 };
-pub use dict::{
-    ByBits, ByOrder, Dict, Name8, Reply, Request, Trie, WordKey, WordValue,
-};
+pub use dict::{ByBits, ByOrder, Dict, Name8, Reply, Request, Trie, WordKey, WordValue};
 pub use forest::{
     Closed, FilledOnce, Forest, NewFault, OpenCall, OrderFault, PairsFault, Pass, Stepped,
     UpdateFault,

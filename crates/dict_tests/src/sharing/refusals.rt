@@ -11,11 +11,7 @@ use std::process::Abort;
 use std::test::Fail;
 
 /// Why no dictionary of this shape begins with these pairs: none, if one does.
-fn fault<B: FilledOnce>(
-    alloc: Global,
-    limits: Limits,
-    pairs: &[(u64, u64)],
-) -> Option<PairsFault> {
+fn fault<B: FilledOnce>(alloc: Global, limits: Limits, pairs: &[(u64, u64)]) -> Option<PairsFault> {
     Forest::<Numbers<B>>::of_pairs(alloc, limits, pairs).err()
 }
 

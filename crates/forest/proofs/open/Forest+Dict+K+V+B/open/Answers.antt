@@ -58,4 +58,4 @@ pub returns-clause-left : goal.returns-clause-left
 returns-clause-left g c =
     let most = most_steps (call_in c.next-turn.new.self.run) c.next-turn.new.self.tries (nodes_by (g.B.Balance.trie g.B.FixedBalance.the) (shared_nodes c.args.self.now.layout)) in
     subst (λ (v : PassView). weight c.next-turn.result (map_left c.next-turn.new.self.run (shared_nodes v.layout)) ≤ most) (sym (c.of-began.ensures ∙ sym c.pass.view_is))
-        (subst (λ (l : Layout). weight c.next-turn.result (map_left c.next-turn.new.self.run (shared_nodes (layout_in c.pass.inside))) ≤ most_steps (call_in c.next-turn.new.self.run) c.next-turn.new.self.tries (nodes_by (g.B.Balance.trie g.B.FixedBalance.the) (shared_nodes l))) (layout_of c.pass.view_is c.self.view_is c.requires.pass ∙ ap (λ (f : Ground). f.layout) c.self.view_is) (few_steps g c))
+    (subst (λ (l : Layout). weight c.next-turn.result (map_left c.next-turn.new.self.run (shared_nodes (layout_in c.pass.inside))) ≤ most_steps (call_in c.next-turn.new.self.run) c.next-turn.new.self.tries (nodes_by (g.B.Balance.trie g.B.FixedBalance.the) (shared_nodes l))) (layout_of c.pass.view_is c.self.view_is c.requires.pass ∙ ap (λ (f : Ground). f.layout) c.self.view_is) (few_steps g c))
