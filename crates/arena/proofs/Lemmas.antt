@@ -1,7 +1,6 @@
 -- What the layers above know of words, plans and shares, exported from one
 -- place: no other module of these proofs can be named outside. Declares nothing.
 pub use Rattle.arena.proofs.SameWords.{word_apart, word_refl, word_same, slot_same}
-pub use Rattle.arena.proofs.Places.{place_inside, places_apart}
 pub use Rattle.arena.proofs.Shapes.{run_as}
 pub use Rattle.arena.proofs.Shares.{overlap}
 pub use Rattle.arena.proofs.Values.{ends_self, ends_trans, exchange_lost, exchange_won, held_at, held_back, held_more, held_now, held_since, held_split, held_start, map_opens, node_apart, node_word_apart, opening_dummy, opening_info, opening_marked, opening_scx, opening_state, rows_after_last, same_moment, same_opening, scx_apart, scx_word_apart, value_apart, value_at, value_other, value_quiet}

@@ -1,5 +1,5 @@
 -- No more nodes are taken than the shares have.
-use Rattle.std.proofs.Common.{◌≡◌, ℕ, ◌+◌, ◌-◌, ◌<◌, ◌≤◌, Bool, true, false, cond, eqb, eq-eqb, ne_eqb, length, List, [], ◌∷◌, zero, suc, refl, subst, arith, map}
+use Rattle.std.proofs.Common.{◌≡◌, ℕ, ◌+◌, ◌-◌, ◌*◌, ◌<◌, ◌≤◌, Bool, true, false, cond, eqb, eq-eqb, ne_eqb, length, List, [], ◌∷◌, zero, suc, refl, subst, arith, map}
 use native.Mathlib.Decide.{ℕ_discrete}
 use Rattle.std.specs.List.{list_any, IsDistinct, AllByRecursion}
 use Rattle.std.proofs.lemmas.List.{length-map}
@@ -13,7 +13,7 @@ use Rattle.arena.specs.declared.limits.Mode.{Mode}
 use Rattle.arena.specs.declared.step.Kind.{Kind}
 use Rattle.arena.specs.declared.step.Row.{Row}
 use Rattle.arena.specs.declared.step.Kind.TheVariants.{Fill}
-use Rattle.arena.specs.Layout.{is_map, nodes_at_start}
+use Rattle.arena.specs.Layout.{is_map, nodes_at_start, opening_nodes}
 use Rattle.arena.specs.Openings.{first_planted}
 use Rattle.arena.specs.History.{History, Opened, ◌⊳◌}
 use Rattle.arena.specs.Fills.{IsOwnNode, MayFill}

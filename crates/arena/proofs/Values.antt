@@ -7,7 +7,7 @@ use Rattle.arena.specs.declared.word.ScxWord.TheVariants.{State}
 use Rattle.arena.specs.declared.word.Word.{Word}
 use Rattle.arena.specs.declared.step.Row.{Row}
 use Rattle.arena.specs.declared.step.Access.TheVariants.{Exchange}
-use Rattle.arena.specs.Layout.{tree_opening, records_opening, IsMap}
+use Rattle.arena.specs.Layout.{is_map, tree_opening, records_opening, IsMap}
 use Rattle.arena.specs.Openings.{Opening}
 use Rattle.arena.specs.Words.{same_word, same_node_word, same_scx_word, node, scx, info, marked, state, word_after}
 use Rattle.arena.specs.History.{History, Start, Opened, ◌⊳◌, value, HasHeld, Extends, opening_of, rows_after}

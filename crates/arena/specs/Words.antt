@@ -59,16 +59,6 @@ IsScxWord (Member j) = j < 4
 IsScxWord (Seen j) = j < 4
 IsScxWord _ = Unit {0}
 
--- how far a word is from where its node or SCX-record begins
-abbrev pub offset : Word → ℕ
-offset (Node n part) = node_place part
-offset (Scx s part) = scx_place part
-
--- nodes or SCX-records have such a word
-abbrev pub IsPart : Word → Type 0
-IsPart (Node n part) = Unit {0}
-IsPart (Scx s part) = IsScxWord part
-
 -- the key of a fork, or of the first pair of a leaf
 abbrev pub first_key : NodeWord
 first_key = Settled (Key First)

@@ -202,6 +202,22 @@ impl Layout {
         }
     }
 
+    /// The place of a word in the table, whose node or SCX-record begins there. No other word has
+    /// it.
+    #[inline(always)]
+    pub fn place_from(&self, start: usize, word: Word) -> usize
+        requires word { IsWord self.now word }
+        requires start { start ≡ start_of self.now word }
+        ensures place { result ≡ place self.now word }
+        ensures inside { result < table_size self.now }
+        ensures apart { (other : Word) → IsWord self.now other → place self.now other ≡ result → other ≡ word }
+    {
+        match word {
+            Word::Node(_, part) => start + node_place(part),
+            Word::Scx(_, part) => start + scx_place(part),
+        }
+    }
+
     /// The place of a word in the table. No other word has it.
     #[inline(always)]
     pub fn place(&self, word: Word) -> usize
@@ -211,20 +227,7 @@ impl Layout {
         ensures apart { (other : Word) → IsWord self.now other → place self.now other ≡ result → other ≡ word }
     {
         let size = self.mode.node_size();
-        place_from(self.start_of(size, word), word)
-    }
-}
-
-/// The place of a word whose node or SCX-record begins there, whoever that is.
-#[inline(always)]
-pub fn place_from(start: usize, word: Word) -> usize
-    requires word { IsPart word }
-    requires start { start < 4611686018427387904 }
-    ensures { result ≡ start + offset word }
-{
-    match word {
-        Word::Node(_, part) => start + node_place(part),
-        Word::Scx(_, part) => start + scx_place(part),
+        self.place_from(self.start_of(size, word), word)
     }
 }
 
@@ -249,7 +252,7 @@ fn nodes_at_start(mode: Mode, planted: u32) -> u32
     if mode.is_map() { 3 + planted } else { 9 }
 }
 
-ghost use Rattle.arena.specs.Words.{node_place, settled_place, slot_no, scx_place, offset, IsScxWord, IsPart};
+ghost use Rattle.arena.specs.Words.{node_place, settled_place, slot_no, scx_place, IsScxWord};
 
 /// The place of a word within its node.
 #[inline(always)]

@@ -16,7 +16,7 @@ mod word;
 
 pub use fault::{BadLimits, Full, NoMemory, Resource};
 pub use head::Head;
-pub use layout::{Layout, place_from};
+pub use layout::Layout;
 pub use limits::{Limits, Mode};
 pub use machine::{Machine, Shape, Turn};
 pub use number::{MemberIndex, NodeNo, PassNo, ScxNo};

@@ -62,26 +62,6 @@ impl Share {
         }
     }
 
-    /// A share of so many nodes from that one on, and of so many SCX-records.
-    pub fn of_run(node: NodeNo, nodes: u32, scx: ScxNo, scxs: u32) -> Share
-        requires { (node.0 + nodes < 2 ^ 64) × (scx.0 + scxs < 2 ^ 64) }
-        ensures { result ≡ record { next_node = node.0; nodes = nodes; next_scx = scx.0; scx = scxs } }
-    {
-        Share {
-            next_node: node.0,
-            nodes,
-            next_scx: scx.0,
-            scx: scxs,
-        }
-    }
-
-    /// The node and the SCX-record that it gives next, if it has one.
-    pub fn next(&self) -> (NodeNo, ScxNo)
-        ensures { (result.0.0 ≡ self.now.next_node) × (result.1.0 ≡ self.now.next_scx) }
-    {
-        (NodeNo(self.next_node), ScxNo(self.next_scx))
-    }
-
     /// Takes the next node: one that this share never gave before.
     pub fn fresh(&mut self) -> Option<Fresh>
         ensures after_taking { IfSome result (λ f. (f ≡ self.old.next_node) × (0 < self.old.nodes)
