@@ -61,3 +61,6 @@ mod LastingDeals
 mod LastingSees
 mod LastingTrees
 mod LastingFinished
+mod UpkeepSteps
+mod UpkeepBook
+mod UpkeepLooks

@@ -1,0 +1,105 @@
+-- What a pass knows of its slots stays so while it does something with another slot.
+use Rattle.std.proofs.Common.{◌≡◌, ◌≢◌, ◌++◌, ℕ, Bool, true, false, true≢false, eqb-true, List, [], ◌∷◌, if◌then◌else◌, inl, inr, refl, sym, ◌∙◌, ap, subst, append_assoc}
+use Rattle.histories.specs.Common.{Layout, Row, History, Extends, IsRun, IsWord, Word}
+use Rattle.arena.proofs.Lemmas.{ends_self, ends_trans}
+use Rattle.planting.specs.Plantings.{PlantingView}
+use Rattle.resting.specs.Records.{Record, record_of, the_node, the_scx}
+use Rattle.slots.specs.Held.{same_record}
+use Rattle.slots.specs.Lasting.{Lasting, slot_of}
+use Rattle.forest.specs.LastingMemory.{record_at}
+use Rattle.forest.specs.LastingNotes.{IsAmongThese, noted_as}
+use Rattle.forest.specs.LastingSlots.{memory_cleared, memory_let_go, names_without, of_others, slot_number}
+use Rattle.forest.specs.TableRule.{history_of}
+use Rattle.forest.specs.UpkeepBook.{IsCleanSlot, IsKnownSo, IsNameIn, KeepsRests, SparesOthers, WasDying, WasFound, memory_with_note, numbered, record_numbered}
+use Rattle.forest.specs.declared.memory.Noted.{Noted}
+use Rattle.forest.specs.declared.memory.NoteView.{NoteView}
+use Rattle.forest.specs.declared.memory.PassMemory.{PassMemory}
+use Rattle.forest.specs.declared.memory.RecordNo.{RecordNo}
+use Rattle.forest.specs.declared.upkeep.book.Known.{Known}
+use Rattle.forest.specs.declared.upkeep.book.Known.TheVariants.{Used, Found, Dying, Free}
+use Rattle.forest.specs.declared.upkeep.kind.RecordKind.{RecordKind}
+use Rattle.forest.specs.declared.view.SeatedPass.{SeatedPass}
+use Rattle.forest.proofs.LastingSlots.{slot_number_is}
+
+-- Lists
+
+same_true : (x y : Record) → same_record x y ≡ true → x ≡ y
+same_true (the_node n) (the_node m) e = ap the_node (eqb-true n m e)
+same_true (the_scx s) (the_scx u) e = ap the_scx (eqb-true s u e)
+same_true (the_node n) (the_scx s) e = absurd cc
+same_true (the_scx s) (the_node n) e = absurd cc
+
+-- what is of another record is among those that are
+pub among_others : {A : Type 0} (of : A → Record) (x : Record) (a : A) (xs : List A) → IsAmongThese a xs → of a ≢ x → IsAmongThese a (of_others of x xs)
+among_others of x a [] i d = absurd i
+among_others of x a (y ∷ ys) i d = go (same_record (of y) x) refl i
+  where
+    go : (b : Bool) → same_record (of y) x ≡ b → IsAmongThese a (y ∷ ys) → IsAmongThese a (if b then of_others of x ys else y ∷ of_others of x ys)
+    go true e (inl q) = absurd (d (ap of q ∙ same_true (of y) x e))
+    go true e (inr j) = among_others of x a ys j d
+    go false e (inl q) = inl q
+    go false e (inr j) = inr (among_others of x a ys j d)
+
+-- Memories
+
+pub rests_same : (m : PassMemory) → KeepsRests m m
+rests_same m = record { rested = refl; away = refl; often = refl; polls = refl; nodes_to = refl; scx_to = refl }
+
+pub rests_on : (a b c : PassMemory) → KeepsRests a b → KeepsRests b c → KeepsRests a c
+rests_on a b c x y = record {
+  rested = y.rested ∙ x.rested;
+  away = y.away ∙ x.away;
+  often = y.often ∙ x.often;
+  polls = y.polls ∙ x.polls;
+  nodes_to = y.nodes_to ∙ x.nodes_to;
+  scx_to = y.scx_to ∙ x.scx_to;
+}
+
+pub spares_same : (t : Lasting) (slot : Record) (m : PassMemory) → SparesOthers t slot m m
+spares_same t slot m = record { notes = λ x i. i; holds = λ x i d. i; empty = λ x i d. i; zeros = λ w i d. i }
+
+pub spares_on : (t : Lasting) (slot : Record) (a b c : PassMemory) → SparesOthers t slot a b → SparesOthers t slot b c → SparesOthers t slot a c
+spares_on t slot a b c x y = record {
+  notes = λ n i. y.notes n (x.notes n i);
+  holds = λ n i d. y.holds n (x.holds n i d) d;
+  empty = λ n i d. y.empty n (x.empty n i d) d;
+  zeros = λ w i d. y.zeros w (x.zeros w i d) d;
+}
+
+pub spares_note : (t : Lasting) (slot : Record) (m : PassMemory) (name : RecordNo) (note : NoteView) → SparesOthers t slot m (memory_with_note m name note)
+spares_note t slot m name note = record { notes = λ x i. inr i; holds = λ x i d. i; empty = λ x i d. i; zeros = λ w i d. i }
+
+pub spares_let_go : (t : Lasting) (m : PassMemory) (name : RecordNo) (slot : Record) → slot_of t (record_at name) ≡ slot → SparesOthers t slot m (memory_let_go t m name)
+spares_let_go t m name slot is = record {
+  notes = λ x i. i;
+  holds = λ x i d. among_others record_at (record_at name) x m.holds i (λ e. d (ap (slot_of t) e ∙ is));
+  empty = λ x i d. inr i;
+  zeros = λ w i d. i;
+}
+
+pub spares_cleared : (t : Lasting) (slot : Record) (m : PassMemory) (w : Word) → SparesOthers t slot m (memory_cleared m w)
+spares_cleared t slot m w = record { notes = λ x i. i; holds = λ x i d. i; empty = λ x i d. i; zeros = λ u i d. inr i }
+
+-- What is known of a slot
+
+-- the slot that a name is in, as a record
+pub slot_record : (t : Lasting) (kind : RecordKind) (slot name : ℕ) → slot_number t (numbered kind name) ≡ numbered kind slot → slot_of t (record_numbered kind name) ≡ record_numbered kind slot
+slot_record t kind slot name is = sym (slot_number_is t (numbered kind name)) ∙ ap record_at is
+
+module _ (t : Lasting) (planting : PlantingView) (o : ℕ) (m n : PassMemory) (other : Record) (spares : SparesOthers t other m n) (since later : List Row) (on : Extends (history_of planting later) (history_of planting since)) (kind : RecordKind) (slot name : ℕ) (apart : record_numbered kind slot ≢ other) where
+  name_kept : IsNameIn t o m kind slot name → IsNameIn t o n kind slot name
+  name_kept x = record {
+    held = spares.holds (numbered kind name) x.held (λ e. apart (sym (slot_record t kind slot name x.slot_is) ∙ e));
+    own = x.own;
+    slot_is = x.slot_is;
+  }
+
+  -- it stays so while something is done with another slot
+  pub known_kept : (known : Known) → IsKnownSo t planting o m since kind slot name known → IsKnownSo t planting o n later kind slot name known
+  known_kept Used x = name_kept x
+  known_kept Found x = (name_kept x.0, let f = x.1 in record { rows = f.rows; noted = spares.notes _ f.noted; before = ends_trans _ _ _ on f.before })
+  known_kept Dying x = (name_kept x.0, let f = x.1 in record { rows = f.rows; noted = spares.notes _ f.noted; before = ends_trans _ _ _ on f.before })
+  known_kept Free x = record {
+    empty = spares.empty (numbered kind slot) x.empty apart;
+    zeros = λ w i e. spares.zeros w (x.zeros w i e) (λ q. apart (sym e ∙ q));
+  }

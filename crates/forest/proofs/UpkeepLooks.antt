@@ -1,0 +1,77 @@
+-- Looks of a pass at a table that lasts.
+use Rattle.std.proofs.Common.{◌≡◌, ◌<◌, ◌≤◌, ◌++◌, ◌%◌, ℕ, List, [], ◌∷◌, Option, Some, None, refl, sym, ◌∙◌, ap, subst, arith}
+use Rattle.std.proofs.Math.Nat.{lt_of_lt_of_le}
+use Rattle.atomic_table.specs.Table.{Me, Allows}
+use Rattle.atomic_table.specs.declared.shared.Seat.{Seat}
+use Rattle.histories.specs.Common.{Layout, Row, History, IsRun, IsWord, NodeWord, Word, Node, Scx, node, scx, place, table_size}
+use Rattle.arena.specs.Words.{IsPart}
+use Rattle.arena.specs.declared.number.PassNo.{PassNo}
+use Rattle.histories.proofs.Lemmas.{own_node_inside, own_scx_inside}
+use Rattle.planting.specs.Plantings.{PlantingView}
+use Rattle.resting.specs.Records.{Record, record_of, the_node, the_scx}
+use Rattle.slots.specs.Lasting.{IsOwnRecord, IsRecord, Lasting, slot_word, table_place}
+use Rattle.forest.specs.LastingRule.{HasLearnt, LearnsWith, TableLasts}
+use Rattle.forest.specs.LastingMemory.{record_at}
+use Rattle.forest.specs.LastingSlots.{slot_number}
+use Rattle.forest.specs.Ruled.{IsRuled}
+use Rattle.forest.specs.Seats.{StaysAtTable}
+use Rattle.forest.specs.Slotted.{in_turns, slots_by, slots_of_table}
+use Rattle.forest.specs.TableRule.{ByOthers, history_of, past_of, seated_pass}
+use Rattle.forest.specs.UpkeepSteps.{HasGoneOnResting, RestsOn}
+use Rattle.forest.specs.UpkeepBook.{IsAtLasting, LearnsOf, Remembers, numbered, slots_in}
+use Rattle.forest.specs.declared.memory.PassMemory.{PassMemory}
+use Rattle.forest.specs.declared.memory.RecordNo.{RecordNo}
+use Rattle.forest.specs.declared.memory.RecordNo.TheVariants.{Node as NodeRecord, Scx as ScxRecord}
+use Rattle.forest.specs.declared.rule.Site.{Site}
+use Rattle.forest.specs.declared.rule.Turns.{Turns}
+use Rattle.forest.specs.declared.upkeep.kind.RecordKind.{RecordKind}
+use Rattle.forest.specs.declared.upkeep.kind.RecordKind.TheVariants.{Node as NodeKind, Scx as ScxKind}
+use Rattle.forest.specs.declared.view.SeatedPass.{SeatedPass}
+use Rattle.forest.specs.declared.view.SeatView.{SeatView}
+use Rattle.forest.specs.declared.words.Words.{Words}
+use Rattle.forest.proofs.UpkeepSteps.{seat_learns, upkeep_allows}
+
+-- Where a table lasts
+
+-- an own record is one of the table
+pub own_record_inside : (lay : Layout) (o : ℕ) (x : Record) → o < lay.passes → IsOwnRecord lay o x → IsRecord lay x
+own_record_inside lay o (the_node n) is_pass own = own_node_inside lay o n is_pass own
+own_record_inside lay o (the_scx s) is_pass own = own_scx_inside lay o s is_pass own
+
+pub is_word : (lay : Layout) (w : Word) → IsPart w → IsRecord lay (record_of w) → IsWord lay w
+is_word lay (Node n part) is_part i = i
+is_word lay (Scx s part) is_part i = (i, is_part)
+
+number_of : RecordNo → ℕ
+number_of (NodeRecord n) = n.0
+number_of (ScxRecord s) = s.0
+
+-- the word of a name is in the slot that it is in
+pub node_in_slot : (t : Lasting) (lay : Layout) (slot name : ℕ) (part : NodeWord) → t.table ≡ lay → slot_number t (numbered NodeKind name) ≡ numbered NodeKind slot → table_place t (node name part) ≡ place lay (node slot part)
+node_in_slot t lay slot name part same is = ap (λ k. place t.table (node k part)) (let e : name % t.node_turn ≡ slot = ap number_of is in e) ∙ ap (λ l. place l (node slot part)) same
+
+module _ {S : Type 0} (allows : Layout → History → ℕ → Type 0) (words : Words S) (lay : Layout) where
+  -- a word of an own record is at a place of the table
+  pub inside : (seat : Seat ℕ SeatView) (p : SeatedPass) (at : ℕ) → IsAtLasting words lay seat p → at < table_size lay → at < words.table.shared.table_id.words
+  inside seat p at here less = let room = here.table.0.room in omega (arith, room, less)
+
+  -- it still is at the table once it has gone on
+  pub at_later : (old new : Seat ℕ SeatView) (p q : SeatedPass) → IsAtLasting words lay old p → StaysAtTable old new → new.me.0.passes ≡ q ∷ [] → HasGoneOnResting allows p q → IsAtLasting words lay new q
+  at_later old new p q at stays one goes = record {
+    table = (at.table.0, stays.0 ∙ at.table.1);
+    alone = one;
+    names = goes.layout ∙ at.names;
+    is_pass = subst (λ (k : PassNo). k.0 < lay.passes) (sym goes.number) at.is_pass;
+  }
+
+-- What looks tell
+
+module _ {S : Type 0} (allows : Layout → History → ℕ → Type 0) (after : PassMemory → ℕ → List Row → PassMemory) where
+  -- a look by which the pass p remembers so much, may be told so of the one pass of the seat
+  pub may_learn : (words : Words S) (lay : Layout) (seat : Seat ℕ SeatView) (p : SeatedPass) (place at : ℕ) (f : ℕ → ℕ) → IsAtLasting words lay seat p → place ≡ at → Allows (TableLasts allows (slots_in words) words.table.shared.key.planting) words.table.shared.table_id.slots seat.id seat.me place f (λ n w. LearnsWith allows (after p.memory n) seat.me.0 w.0 × (w.1 ≡ seat.me.1)) → Allows (IsRuled allows words.table.shared.key) words.table.shared.table_id.slots seat.id seat.me at f (λ n w. LearnsOf allows after seat.me.0 n w.0 × (w.1 ≡ seat.me.1))
+  may_learn words lay seat p place at f here there law = let turns = here.table.0 in
+      upkeep_allows allows words.table.shared.key turns.turns turns.comes_back words.table.shared.table_id.slots seat.id seat.me place at f (λ n w. LearnsWith allows (after p.memory n) seat.me.0 w) (LearnsOf allows after seat.me.0) there (λ n w x. (p, here.alone, x)) law
+
+  -- and it is p that has learnt
+  pub has_learnt : (v w : SeatView) (n : ℕ) (so : PassMemory → List Row → PassMemory) → ((m : PassMemory) (rows : List Row) → after m n rows ≡ so m rows) → LearnsOf allows after v n w → RestsOn allows (Remembers so) v w
+  has_learnt v w n so same x = seat_learns allows (after x.0.memory n) (Remembers so) x.0 v w x.1 x.2 (λ q goes e. e ∙ same x.0.memory q.known)
