@@ -64,3 +64,5 @@ mod LastingFinished
 mod UpkeepSteps
 mod UpkeepBook
 mod UpkeepLooks
+mod UpkeepTurn
+mod UpkeepTurns

@@ -32,13 +32,13 @@ same_true (the_scx s) (the_node n) e = absurd cc
 -- what is of another record is among those that are
 pub among_others : {A : Type 0} (of : A → Record) (x : Record) (a : A) (xs : List A) → IsAmongThese a xs → of a ≢ x → IsAmongThese a (of_others of x xs)
 among_others of x a [] i d = absurd i
-among_others of x a (y ∷ ys) i d = go (same_record (of y) x) refl i
+among_others of x a (y ∷ ys) i d = go (same_record (of y) x) refl i (λ j. among_others of x a ys j d)
   where
-    go : (b : Bool) → same_record (of y) x ≡ b → IsAmongThese a (y ∷ ys) → IsAmongThese a (if b then of_others of x ys else y ∷ of_others of x ys)
-    go true e (inl q) = absurd (d (ap of q ∙ same_true (of y) x e))
-    go true e (inr j) = among_others of x a ys j d
-    go false e (inl q) = inl q
-    go false e (inr j) = inr (among_others of x a ys j d)
+    go : (b : Bool) → same_record (of y) x ≡ b → IsAmongThese a (y ∷ ys) → (IsAmongThese a ys → IsAmongThese a (of_others of x ys)) → IsAmongThese a (if b then of_others of x ys else y ∷ of_others of x ys)
+    go true e (inl q) rest = absurd (d (ap of q ∙ same_true (of y) x e))
+    go true e (inr j) rest = rest j
+    go false e (inl q) rest = inl q
+    go false e (inr j) rest = inr (rest j)
 
 -- Memories
 

@@ -31,6 +31,8 @@ pub(crate) fn turn_all<S: Shape>(
         × HasEnded (slots_in words.now) p since × HasTakenBelow p own.old.kind next
         × IsBook (slots_in words.now) p since own.old }
     ensures table { StaysAtTable seat.old seat.new }
+    ensures same { (own.new.kind ≡ own.old.kind) × (own.new.first ≡ own.old.first)
+        × (length own.new.slots.items ≡ length own.old.slots.items) }
     ensures turned { RestsOn S.allows (HasTurned (slots_in words.now) own.new)
         seat.old.me.0 seat.new.me.0 }
 {

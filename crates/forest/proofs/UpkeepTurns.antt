@@ -1,0 +1,107 @@
+-- How the slots of a pass are gone through, one after the other, once a period has ended.
+use Rattle.std.proofs.Common.{◌≡◌, ◌≢◌, ◌<◌, ◌≤◌, ◌+◌, ℕ, zero, suc, List, [], ◌∷◌, Option, Some, None, length, slice_get, set, get_or, refl, sym, ◌∙◌, ap, subst, arith}
+use Rattle.std.proofs.lemmas.List.{length-set}
+use native.Mathlib.Decide.{ℕ_discrete}
+use Rattle.arena.proofs.Lemmas.{ends_self}
+use Rattle.arena.specs.declared.number.PassNo.{PassNo}
+use Rattle.histories.specs.Common.{Layout, Row, History, Extends}
+use Rattle.planting.specs.Plantings.{PlantingView}
+use Rattle.slots.specs.Lasting.{Lasting}
+use Rattle.forest.specs.TableRule.{history_of, past_of}
+use Rattle.forest.specs.UpkeepBook.{AreAllOwn, AreSlotsSo, HasEnded, HasTurned, IsBook, IsKnownSo, IsSlotSo, KeepsOthers, KeepsRests, KnowsNow, count_own, first_own, record_numbered}
+use Rattle.forest.specs.UpkeepSteps.{HasGoneOnResting}
+use Rattle.forest.specs.declared.upkeep.book.OwnSlot.{OwnSlot}
+use Rattle.forest.specs.declared.upkeep.book.OwnSlots.{OwnSlots}
+use Rattle.forest.specs.declared.upkeep.kind.RecordKind.{RecordKind}
+use Rattle.forest.specs.declared.upkeep.kind.RecordKind.TheVariants.{Node, Scx}
+use Rattle.forest.specs.declared.view.SeatedPass.{SeatedPass}
+use Rattle.forest.proofs.UpkeepBook.{known_kept, rests_on, rests_same}
+use Rattle.forest.proofs.UpkeepTurn.{ended_on, known_on}
+
+-- Lists
+
+some_is : {A : Type 0} (x y : A) → Some x ≡ Some y → x ≡ y
+some_is x y e = cc
+
+pub set_at : (xs : List OwnSlot) (i : ℕ) (new y : OwnSlot) → slice_get (set xs i new) i ≡ Some y → y ≡ new
+set_at [] i new y e = absurd (let z : None ≡ Some y = e in cc)
+set_at (x ∷ xs) zero new y e = sym (some_is new y e)
+set_at (x ∷ xs) (suc i) new y e = set_at xs i new y e
+
+pub set_beside : (xs : List OwnSlot) (i j : ℕ) (new : OwnSlot) → j ≢ i → slice_get (set xs i new) j ≡ slice_get xs j
+set_beside [] i j new d = refl
+set_beside (x ∷ xs) zero zero new d = absurd (d refl)
+set_beside (x ∷ xs) zero (suc j) new d = refl
+set_beside (x ∷ xs) (suc i) zero new d = refl
+set_beside (x ∷ xs) (suc i) (suc j) new d = set_beside xs i j new (λ e. d (ap suc e))
+
+pub read_at : (xs : List OwnSlot) (i : ℕ) (x : OwnSlot) → i < length xs → x ≡ get_or xs i x → slice_get xs i ≡ Some x
+read_at [] i x less e = absurd (omega (arith, less))
+read_at (y ∷ ys) zero x less e = ap Some (sym e)
+read_at (y ∷ ys) (suc i) x less e = read_at ys i x (omega (arith, less)) e
+
+-- Slots
+
+-- records of other numbers are others
+pub numbered_apart : (kind : RecordKind) (n k : ℕ) → n ≢ k → record_numbered kind n ≢ record_numbered kind k
+numbered_apart Node n k d e = d (let q : n ≡ k = cc in q)
+numbered_apart Scx n k d e = d (let q : n ≡ k = cc in q)
+
+-- what is known of a slot stays so while something is done with another
+pub slot_kept : (allows : Layout → History → ℕ → Type 0) (t : Lasting) (q r : SeatedPass) → HasGoneOnResting allows q r → (kind other_kind : RecordKind) (other slot : ℕ) → KeepsOthers t (record_numbered other_kind other) q r → record_numbered kind slot ≢ record_numbered other_kind other → (since later : List Row) → Extends (history_of q.planting later) (history_of q.planting since) → (x : OwnSlot) → IsSlotSo t q since kind slot x → IsSlotSo t r later kind slot x
+slot_kept allows t q r goes kind other_kind other slot keeps apart since later on x so =
+    subst (λ (l : PlantingView). IsKnownSo t l r.number.0 r.memory later kind slot x.name x.known) (sym goes.planting)
+    (subst (λ (k : PassNo). IsKnownSo t q.planting k.0 r.memory later kind slot x.name x.known) (sym goes.number)
+    (known_kept t q.planting q.number.0 q.memory r.memory (record_numbered other_kind other) keeps.others since later on kind slot x.name apart x.known so))
+
+-- The slots before that one have been gone through, by which the pass p has become q.
+pub record TurnsTo (t : Lasting) (old own : OwnSlots) (i : ℕ) (p q : SeatedPass) : Type 0 where
+  pub rests : KeepsRests p.memory q.memory
+  pub turned : (since : List Row) → IsBook t p since old → HasEnded t p since → AreSlotsSo t q q.known own 0 i
+  pub waits : (since : List Row) → IsBook t p since old → HasEnded t p since → AreSlotsSo t q since own i (length old.slots.items)
+
+module _ (t : Lasting) (old : OwnSlots) where
+  pub none_turned : (p : SeatedPass) → TurnsTo t old old 0 p p
+  none_turned p = record {
+    rests = rests_same p.memory;
+    turned = λ since book ended i x from to is. absurd (omega (arith, to));
+    waits = λ since book ended. book.slots;
+  }
+
+  module _ (allows : Layout → History → ℕ → Type 0) (own new : OwnSlots) (i : ℕ) (x : OwnSlot) (kind : new.kind ≡ own.kind) (first : new.first ≡ own.first) (is : new.slots.items ≡ set own.slots.items i x) (p q r : SeatedPass) (goes : HasGoneOnResting allows q r) (knows : KnowsNow t own.kind (own.first + i) x q r) where
+    -- another slot is as it was
+    beside : (since later : List Row) → Extends (history_of q.planting later) (history_of q.planting since) → (j : ℕ) (y : OwnSlot) → j ≢ i → slice_get new.slots.items j ≡ Some y → (slice_get own.slots.items j ≡ Some y → IsSlotSo t q since own.kind (own.first + j) y) → IsSlotSo t r later own.kind (own.first + j) y
+    beside since later on j y d there so = slot_kept allows t q r goes own.kind own.kind (own.first + i) (own.first + j) knows.keeps (numbered_apart own.kind (own.first + j) (own.first + i) (λ e. d (omega (arith, e)))) since later on y
+        (so (sym (set_beside own.slots.items i j x d) ∙ ap (λ (l : List OwnSlot). slice_get l j) (sym is) ∙ there))
+
+    known_more : Extends (history_of q.planting r.known) (history_of q.planting q.known)
+    known_more = subst (λ (l : PlantingView). Extends (history_of l r.known) (past_of q [])) goes.planting (known_on allows q r goes)
+
+    -- in words of the new slots
+    as_new : (j : ℕ) (since : List Row) (y : OwnSlot) → IsSlotSo t r since own.kind (own.first + j) y → IsSlotSo t r since new.kind (new.first + j) y
+    as_new j since y so = subst (λ (k : RecordKind). IsSlotSo t r since k (new.first + j) y) (sym kind) (subst (λ n. IsSlotSo t r since own.kind (n + j) y) (sym first) so)
+
+    turned_at : (j : ℕ) (y : OwnSlot) → j < i + 1 → slice_get new.slots.items j ≡ Some y → (j < i → slice_get own.slots.items j ≡ Some y → IsSlotSo t q q.known own.kind (own.first + j) y) → Dec (j ≡ i) → IsSlotSo t r r.known own.kind (own.first + j) y
+    turned_at j y to there so (yes e) = subst (λ k. IsSlotSo t r r.known own.kind (own.first + k) y) (sym e) (subst (λ (z : OwnSlot). IsSlotSo t r r.known own.kind (own.first + i) z) (sym (set_at own.slots.items i x y (ap (λ (l : List OwnSlot). slice_get l i) (sym is) ∙ ap (slice_get new.slots.items) (sym e) ∙ there))) knows.so)
+    turned_at j y to there so (no d) = beside q.known r.known known_more j y d there (so (omega (arith, to, d)))
+
+    -- one slot more
+    pub one_turned : TurnsTo t old own i p q → TurnsTo t old new (i + 1) p r
+    one_turned z = record {
+      rests = rests_on p.memory q.memory r.memory z.rests knows.keeps.rests;
+      turned = λ since book ended j y from to there. as_new j r.known y (turned_at j y to there (λ less. z.turned since book ended j y from less) (ℕ_discrete j i));
+      waits = λ since book ended j y from to there. as_new j since y (beside since since (ends_self (history_of q.planting since)) j y (λ e. omega (arith, from, e)) there (z.waits since book ended j y (omega (arith, from)) to));
+    }
+
+  -- all
+  pub all_turned : (own : OwnSlots) (i : ℕ) (p q : SeatedPass) (since : List Row) → own.kind ≡ old.kind → own.first ≡ old.first → length own.slots.items ≡ length old.slots.items → i ≡ length old.slots.items → q.number ≡ p.number → IsBook t p since old → HasEnded t p since → TurnsTo t old own i p q → HasTurned t own p q
+  all_turned own i p q since kind first count all number book ended z = record {
+    rests = z.rests;
+    book = record {
+      all = record {
+        first = first ∙ book.all.first ∙ ap (λ (k : RecordKind). first_own k t.table p.number.0) (sym kind) ∙ ap (λ (n : PassNo). first_own own.kind t.table n.0) (sym number);
+        count = count ∙ book.all.count ∙ ap (λ (k : RecordKind). count_own k t.table) (sym kind);
+      };
+      slots = λ j x from to there. z.turned since book ended j x from (subst (λ n. j < n) (count ∙ sym all) to) there;
+    };
+  }
