@@ -62,6 +62,7 @@ mod LastingSees
 mod LastingTrees
 mod LastingFinished
 mod UpkeepSteps
+mod UpkeepPeriod
 mod UpkeepBook
 mod UpkeepLooks
 mod UpkeepTurn

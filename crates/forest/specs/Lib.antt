@@ -40,4 +40,5 @@ pub mod LastingRule
 pub mod LastingOpening
 pub mod Ruled
 pub mod UpkeepSteps
+pub mod UpkeepPeriod
 pub mod UpkeepBook
