@@ -20,10 +20,11 @@ pub(crate) mod clean;
 pub(crate) mod kind;
 pub(crate) mod looks;
 pub(crate) mod part;
-mod period;
+pub(crate) mod period;
 pub(crate) mod turn;
 
-/// How often a pass rests at most, so that twice as much fits its word.
+/// How often a pass rests at most, so that twice as much fits a word: many more times than any
+/// program has time for.
 pub(crate) const MOST_RESTS: u64 = 4_611_686_018_427_387_904;
 
 /// Where a pass counts its rests: behind the words of all records each pass has a line of the cache
