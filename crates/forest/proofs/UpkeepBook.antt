@@ -1,24 +1,22 @@
 -- What a pass knows of its slots stays so while it does something with another slot.
-use Rattle.std.proofs.Common.{◌≡◌, ◌≢◌, ◌++◌, ℕ, Bool, true, false, true≢false, eqb-true, List, [], ◌∷◌, if◌then◌else◌, inl, inr, refl, sym, ◌∙◌, ap, subst, append_assoc}
-use Rattle.histories.specs.Common.{Layout, Row, History, Extends, IsRun, IsWord, Word}
-use Rattle.arena.proofs.Lemmas.{ends_self, ends_trans}
+use Rattle.std.proofs.Common.{◌≡◌, ◌≢◌, ℕ, Bool, true, false, eqb-true, List, [], ◌∷◌, if◌then◌else◌, inl, inr, refl, sym, ◌∙◌, ap}
+use Rattle.histories.specs.Common.{Row, Extends, Word}
+use Rattle.arena.proofs.Lemmas.{ends_trans}
 use Rattle.planting.specs.Plantings.{PlantingView}
-use Rattle.resting.specs.Records.{Record, record_of, the_node, the_scx}
+use Rattle.resting.specs.Records.{Record, the_node, the_scx}
 use Rattle.slots.specs.Held.{same_record}
 use Rattle.slots.specs.Lasting.{Lasting, slot_of}
 use Rattle.forest.specs.LastingMemory.{record_at}
-use Rattle.forest.specs.LastingNotes.{IsAmongThese, noted_as}
-use Rattle.forest.specs.LastingSlots.{memory_cleared, memory_let_go, names_without, of_others, slot_number}
+use Rattle.forest.specs.LastingNotes.{IsAmongThese}
+use Rattle.forest.specs.LastingSlots.{memory_cleared, memory_let_go, of_others, slot_number}
 use Rattle.forest.specs.TableRule.{history_of}
-use Rattle.forest.specs.UpkeepBook.{IsCleanSlot, IsKnownSo, IsNameIn, KeepsRests, SparesOthers, WasDying, WasFound, memory_with_note, numbered, record_numbered}
-use Rattle.forest.specs.declared.memory.Noted.{Noted}
+use Rattle.forest.specs.UpkeepBook.{IsKnownSo, IsNameIn, KeepsRests, SparesOthers, memory_with_note, numbered, record_numbered}
 use Rattle.forest.specs.declared.memory.NoteView.{NoteView}
 use Rattle.forest.specs.declared.memory.PassMemory.{PassMemory}
 use Rattle.forest.specs.declared.memory.RecordNo.{RecordNo}
 use Rattle.forest.specs.declared.upkeep.book.Known.{Known}
 use Rattle.forest.specs.declared.upkeep.book.Known.TheVariants.{Used, Found, Dying, Free}
 use Rattle.forest.specs.declared.upkeep.kind.RecordKind.{RecordKind}
-use Rattle.forest.specs.declared.view.SeatedPass.{SeatedPass}
 use Rattle.forest.proofs.LastingSlots.{slot_number_is}
 
 -- Lists

@@ -1,29 +1,22 @@
 -- Looks of a pass at a table that lasts.
-use Rattle.std.proofs.Common.{◌≡◌, ◌<◌, ◌≤◌, ◌++◌, ◌%◌, ℕ, List, [], ◌∷◌, Option, Some, None, refl, sym, ◌∙◌, ap, subst, arith}
-use Rattle.std.proofs.Math.Nat.{lt_of_lt_of_le}
-use Rattle.atomic_table.specs.Table.{Me, Allows}
+use Rattle.std.proofs.Common.{◌≡◌, ◌<◌, ◌%◌, ℕ, List, [], ◌∷◌, refl, sym, ◌∙◌, ap, subst, arith}
+use Rattle.atomic_table.specs.Table.{Allows}
 use Rattle.atomic_table.specs.declared.shared.Seat.{Seat}
-use Rattle.histories.specs.Common.{Layout, Row, History, IsRun, IsWord, NodeWord, ScxWord, Word, Node, Scx, node, scx, place, table_size}
+use Rattle.histories.specs.Common.{Layout, Row, History, IsWord, NodeWord, ScxWord, Word, Node, Scx, node, place, table_size}
 use Rattle.arena.specs.Words.{IsPart, IsScxWord, node_place, offset, scx_place}
 use Rattle.arena.specs.declared.number.PassNo.{PassNo}
 use Rattle.histories.proofs.Lemmas.{own_node_inside, own_scx_inside}
-use Rattle.planting.specs.Plantings.{PlantingView}
 use Rattle.resting.specs.Records.{Record, record_of, the_node, the_scx}
-use Rattle.slots.specs.Lasting.{IsOwnRecord, IsRecord, Lasting, slot_word, table_place}
-use Rattle.forest.specs.LastingRule.{HasLearnt, LearnsWith, TableLasts}
-use Rattle.forest.specs.LastingMemory.{record_at}
+use Rattle.slots.specs.Lasting.{IsOwnRecord, IsRecord, Lasting, table_place}
+use Rattle.forest.specs.LastingRule.{LearnsWith, TableLasts}
 use Rattle.forest.specs.LastingSlots.{slot_number}
 use Rattle.forest.specs.Ruled.{IsRuled}
 use Rattle.forest.specs.Seats.{StaysAtTable}
-use Rattle.forest.specs.Slotted.{in_turns, slots_by, slots_of_table}
-use Rattle.forest.specs.TableRule.{ByOthers, history_of, past_of, seated_pass}
 use Rattle.forest.specs.UpkeepSteps.{HasGoneOnResting, RestsOn}
 use Rattle.forest.specs.UpkeepBook.{IsAtLasting, LearnsOf, Remembers, numbered, parts_of, record_numbered, slots_in}
 use Rattle.forest.specs.declared.memory.PassMemory.{PassMemory}
 use Rattle.forest.specs.declared.memory.RecordNo.{RecordNo}
 use Rattle.forest.specs.declared.memory.RecordNo.TheVariants.{Node as NodeRecord, Scx as ScxRecord}
-use Rattle.forest.specs.declared.rule.Site.{Site}
-use Rattle.forest.specs.declared.rule.Turns.{Turns}
 use Rattle.forest.specs.declared.upkeep.kind.RecordKind.{RecordKind}
 use Rattle.forest.specs.declared.upkeep.kind.RecordKind.TheVariants.{Node as NodeKind, Scx as ScxKind}
 use Rattle.forest.specs.declared.view.SeatedPass.{SeatedPass}

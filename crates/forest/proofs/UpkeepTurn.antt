@@ -1,5 +1,5 @@
 -- How what is known of a slot goes on once a period has ended.
-use Rattle.std.proofs.Common.{◌≡◌, ◌≢◌, ◌<◌, ◌≤◌, ◌+◌, ℕ, List, [], ◌∷◌, inl, inr, refl, sym, ◌∙◌, ap, subst, arith}
+use Rattle.std.proofs.Common.{◌≡◌, ◌<◌, ◌+◌, ℕ, List, [], ◌∷◌, inl, inr, refl, sym, ◌∙◌, ap, subst, arith}
 use native.Mathlib.Decide.{ℕ_discrete}
 use Rattle.histories.specs.Common.{Layout, Row, History, Extends, IsWord, Word}
 use Rattle.arena.proofs.Lemmas.{ends_self, ends_trans}
@@ -11,7 +11,7 @@ use Rattle.slots.specs.Lasting.{IsTaken, Lasting}
 use Rattle.forest.specs.LastingNotes.{IsAmongThese, noted_as, rested_poll}
 use Rattle.forest.specs.LastingSlots.{memory_cleared, memory_let_go}
 use Rattle.forest.specs.TableRule.{history_of, past_of}
-use Rattle.forest.specs.UpkeepBook.{HasEnded, HasFreed, IsCleanSlot, IsKnownSo, IsNameIn, IsSlotSo, KeepsOthers, KeepsRests, KnowsNow, Remembers, SparesOthers, memory_with_note, numbered, record_numbered}
+use Rattle.forest.specs.UpkeepBook.{HasEnded, HasFreed, IsKnownSo, IsNameIn, IsSlotSo, KeepsOthers, KeepsRests, KnowsNow, Remembers, memory_with_note, numbered, record_numbered}
 use Rattle.forest.specs.UpkeepSteps.{HasGoneOnResting, RestsOn}
 use Rattle.forest.specs.declared.memory.NoteView.{NoteView}
 use Rattle.forest.specs.declared.memory.NoteView.TheVariants.{DeadBy, MarkedOrDead, OutOfReach}

@@ -1,14 +1,13 @@
 -- How the slots of a pass are gone through, one after the other, once a period has ended.
-use Rattle.std.proofs.Common.{◌≡◌, ◌≢◌, ◌<◌, ◌≤◌, ◌+◌, ℕ, zero, suc, List, [], ◌∷◌, Option, Some, None, length, slice_get, set, get_or, refl, sym, ◌∙◌, ap, subst, arith}
-use Rattle.std.proofs.lemmas.List.{length-set}
+use Rattle.std.proofs.Common.{◌≡◌, ◌≢◌, ◌<◌, ◌+◌, ℕ, zero, suc, List, [], ◌∷◌, Some, None, length, slice_get, set, get_or, refl, sym, ◌∙◌, ap, subst, arith}
 use native.Mathlib.Decide.{ℕ_discrete}
 use Rattle.arena.proofs.Lemmas.{ends_self}
 use Rattle.arena.specs.declared.number.PassNo.{PassNo}
 use Rattle.histories.specs.Common.{Layout, Row, History, Extends}
 use Rattle.planting.specs.Plantings.{PlantingView}
-use Rattle.slots.specs.Lasting.{Lasting}
+use Rattle.slots.specs.Lasting.{IsOwnRecord, Lasting}
 use Rattle.forest.specs.TableRule.{history_of, past_of}
-use Rattle.forest.specs.UpkeepBook.{AreAllOwn, AreSlotsSo, HasEnded, HasTurned, IsBook, IsKnownSo, IsSlotSo, KeepsOthers, KeepsRests, KnowsNow, count_own, first_own, record_numbered}
+use Rattle.forest.specs.UpkeepBook.{AreAllOwn, AreSlotsSo, HasEnded, HasTakenBelow, HasTurned, IsBook, IsKnownSo, IsSlotSo, KeepsOthers, KeepsRests, KnowsNow, count_own, first_own, record_numbered}
 use Rattle.forest.specs.UpkeepSteps.{HasGoneOnResting}
 use Rattle.forest.specs.declared.upkeep.book.OwnSlot.{OwnSlot}
 use Rattle.forest.specs.declared.upkeep.book.OwnSlots.{OwnSlots}
@@ -16,7 +15,7 @@ use Rattle.forest.specs.declared.upkeep.kind.RecordKind.{RecordKind}
 use Rattle.forest.specs.declared.upkeep.kind.RecordKind.TheVariants.{Node, Scx}
 use Rattle.forest.specs.declared.view.SeatedPass.{SeatedPass}
 use Rattle.forest.proofs.UpkeepBook.{known_kept, rests_on, rests_same}
-use Rattle.forest.proofs.UpkeepTurn.{ended_on, known_on}
+use Rattle.forest.proofs.UpkeepTurn.{known_on, still_taken}
 
 -- Lists
 
@@ -53,6 +52,23 @@ slot_kept allows t q r goes kind other_kind other slot keeps apart since later o
     subst (λ (l : PlantingView). IsKnownSo t l r.number.0 r.memory later kind slot x.name x.known) (sym goes.planting)
     (subst (λ (k : PassNo). IsKnownSo t q.planting k.0 r.memory later kind slot x.name x.known) (sym goes.number)
     (known_kept t q.planting q.number.0 q.memory r.memory (record_numbered other_kind other) keeps.others since later on kind slot x.name apart x.known so))
+
+-- each of them is a record of the pass's own
+pub own_slot : (t : Lasting) (lay : Layout) (p q : SeatedPass) (old : OwnSlots) (kind : RecordKind) (first i : ℕ) → t.table ≡ lay → AreAllOwn t p old → q.number ≡ p.number → kind ≡ old.kind → first ≡ old.first → i < length old.slots.items → IsOwnRecord lay q.number.0 (record_numbered kind (first + i))
+own_slot t lay p q old kind first i same all number is_kind is_first inside =
+    subst (λ (l : Layout). IsOwnRecord l q.number.0 (record_numbered kind (first + i))) same
+    (subst (λ (k : PassNo). IsOwnRecord t.table k.0 (record_numbered kind (first + i))) (sym number)
+    (subst (λ (k : RecordKind). IsOwnRecord t.table p.number.0 (record_numbered k (first + i))) (sym is_kind)
+    (go old.kind (is_first ∙ all.first) (subst (λ n. i < n) all.count inside))))
+  where
+    go : (k : RecordKind) → first ≡ first_own k t.table p.number.0 → i < count_own k t.table → IsOwnRecord t.table p.number.0 (record_numbered k (first + i))
+    go Node e less = record { from = omega (arith, e); below = omega (arith, e, less) }
+    go Scx e less = record { from = omega (arith, e); below = omega (arith, e, less) }
+
+-- names that were taken still are
+pub taken_on : (allows : Layout → History → ℕ → Type 0) (p q : SeatedPass) → HasGoneOnResting allows p q → (kind old_kind : RecordKind) (next : ℕ) → kind ≡ old_kind → HasTakenBelow p old_kind next → HasTakenBelow q kind next
+taken_on allows p q goes kind old_kind next same taken = subst (λ (k : RecordKind). HasTakenBelow q k next) (sym same) (λ n own below. still_taken allows p q goes (record_numbered old_kind n) (taken n
+    (subst (λ (l : Layout). IsOwnRecord l p.number.0 (record_numbered old_kind n)) goes.layout (subst (λ (k : PassNo). IsOwnRecord q.layout k.0 (record_numbered old_kind n)) goes.number own)) below))
 
 -- The slots before that one have been gone through, by which the pass p has become q.
 pub record TurnsTo (t : Lasting) (old own : OwnSlots) (i : ℕ) (p q : SeatedPass) : Type 0 where

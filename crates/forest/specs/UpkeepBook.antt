@@ -1,8 +1,7 @@
 -- What a pass knows of its own slots between two calls, and what it is to be right.
-use Rattle.std.specs.Prelude.{◌≡◌, ◌≢◌, ◌+◌, ◌<◌, ◌≤◌, ◌++◌, ℕ, List, [], ◌∷◌, Option, Some, length, slice_get}
+use Rattle.std.specs.Prelude.{◌≡◌, ◌≢◌, ◌+◌, ◌<◌, ◌≤◌, ℕ, List, [], ◌∷◌, Some, length, slice_get}
 use Rattle.atomic_table.specs.declared.shared.Seat.{Seat}
-use Rattle.arena.specs.Share.{Remaining}
-use Rattle.histories.specs.Common.{Layout, Row, History, Extends, Word, IsWord, IsRun, first_node, first_scx, table_size}
+use Rattle.histories.specs.Common.{Layout, Row, History, Extends, Word, IsWord, first_node, first_scx}
 use Rattle.planting.specs.Plantings.{PlantingView}
 use Rattle.resting.specs.Records.{Record, record_of}
 use Rattle.slots.specs.Lasting.{IsOwnRecord, IsTaken, Lasting, slot_of}
@@ -15,11 +14,10 @@ use Rattle.forest.specs.TableRule.{history_of, past_of}
 use Rattle.forest.specs.UpkeepSteps.{IsLastingSeat}
 use Rattle.forest.specs.declared.memory.Noted.{Noted}
 use Rattle.forest.specs.declared.memory.NoteView.{NoteView}
-use Rattle.forest.specs.declared.memory.NoteView.TheVariants.{MarkedOrDead, DeadBy, OutOfReach}
+use Rattle.forest.specs.declared.memory.NoteView.TheVariants.{MarkedOrDead, DeadBy}
 use Rattle.forest.specs.declared.memory.PassMemory.{PassMemory}
 use Rattle.forest.specs.declared.memory.RecordNo.{RecordNo}
 use Rattle.forest.specs.declared.memory.RecordNo.TheVariants.{Node as NodeRecord, Scx as ScxRecord}
-use Rattle.forest.specs.declared.rule.Turns.{Turns}
 use Rattle.forest.specs.declared.upkeep.kind.RecordKind.{RecordKind}
 use Rattle.forest.specs.declared.upkeep.kind.RecordKind.TheVariants.{Node, Scx}
 use Rattle.forest.specs.declared.upkeep.book.Known.{Known}

@@ -1,12 +1,7 @@
-use Rattle.std.proofs.Common.{◌≡◌, ◌<◌, ◌+◌, ℕ, [], ◌∷◌, refl, sym, ◌∙◌, subst, arith}
-use Rattle.arena.specs.Words.{offset}
-use Rattle.arena.specs.declared.number.PassNo.{PassNo}
-use Rattle.histories.specs.Common.{IsWord, Layout, Word}
-use Rattle.resting.specs.Records.{record_of}
-use Rattle.slots.specs.Lasting.{IsOwnRecord}
+use Rattle.std.proofs.Common.{◌≡◌, ◌+◌, refl, ◌∙◌, subst, arith}
+use Rattle.histories.specs.Common.{IsWord, Layout}
 use Rattle.forest.specs.LastingSlots.{memory_cleared}
-use Rattle.forest.specs.UpkeepBook.{HasFreed, Remembers, numbered, parts_of, record_numbered, slots_in}
-use Rattle.forest.specs.declared.upkeep.kind.RecordKind.{RecordKind}
+use Rattle.forest.specs.UpkeepBook.{HasFreed, Remembers, parts_of, slots_in}
 use Rattle.forest.proofs.UpkeepLooks.{at_now, few_parts, own_now, table_in}
 use Rattle.forest.proofs.UpkeepSteps.{seat_as, seat_on, seat_still}
 use Rattle.forest.proofs.UpkeepTurn.{IsClearedTo, all_cleared, none_cleared, one_cleared}

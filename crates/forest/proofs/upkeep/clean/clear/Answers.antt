@@ -1,4 +1,4 @@
-use Rattle.std.proofs.Common.{◌≡◌, ◌<◌, ℕ, refl, sym, ◌∙◌, ap, subst}
+use Rattle.std.proofs.Common.{◌≡◌, ℕ, refl, sym, ◌∙◌, ap, subst}
 use Rattle.arena.specs.Words.{offset}
 use Rattle.histories.specs.Common.{IsWord, Layout, Word, place}
 use Rattle.resting.specs.Records.{Record, record_of}

@@ -1,13 +1,10 @@
-use Rattle.std.proofs.Common.{◌≡◌, Bool, true, false, eqb, not, if◌then◌else◌, List, refl, sym, ◌∙◌, ap}
-use Rattle.histories.specs.Common.{Row, Marked}
+use Rattle.std.proofs.Common.{◌≡◌, Bool, true, false, eqb, not, if◌then◌else◌, refl, sym, ◌∙◌}
+use Rattle.histories.specs.Common.{Marked}
 use Rattle.forest.specs.LastingNotes.{memory_marked}
-use Rattle.forest.specs.UpkeepBook.{memory_with_note, numbered, slots_in}
-use Rattle.forest.specs.declared.memory.NoteView.TheVariants.{MarkedOrDead}
+use Rattle.forest.specs.UpkeepBook.{numbered, slots_in}
 use Rattle.forest.specs.declared.memory.PassMemory.{PassMemory}
-use Rattle.forest.specs.declared.memory.RecordNo.{RecordNo}
 use Rattle.forest.specs.declared.upkeep.kind.RecordKind.TheVariants.{Node}
 use Rattle.forest.proofs.UpkeepLooks.{has_learnt, may_learn, node_in_slot, passes_in, table_in}
-
 use Rattle.forest.proofs.upkeep.looks.is_marked.Goals as goal
 
 pub load_with-requires-clause-may : goal.load_with-requires-clause-may

@@ -1,7 +1,7 @@
-use Rattle.std.proofs.Common.{◌≡◌, [], ◌∷◌, refl}
+use Rattle.std.proofs.Common.{[], ◌∷◌, refl}
 use Rattle.forest.specs.LastingNotes.{noted_as}
 use Rattle.forest.specs.UpkeepBook.{memory_with_note, numbered, slots_in}
-use Rattle.forest.specs.declared.memory.NoteView.TheVariants.{DeadBy, MarkedOrDead, OutOfReach}
+use Rattle.forest.specs.declared.memory.NoteView.TheVariants.{DeadBy, MarkedOrDead}
 use Rattle.forest.proofs.UpkeepLooks.{has_learnt, inside, may_learn, passes_in}
 use Rattle.forest.proofs.upkeep.looks.note_dying.Goals as goal
 

@@ -1,5 +1,5 @@
 use Rattle.forest.specs.UpkeepBook.{LearnsOf, memory_with_note, numbered}
-use Rattle.forest.specs.declared.memory.NoteView.TheVariants.{DeadBy, OutOfReach}
+use Rattle.forest.specs.declared.memory.NoteView.TheVariants.{OutOfReach}
 use Rattle.forest.proofs.upkeep.looks.note_gone.Given as goal
 
 abbrev pub ghosts-load_with : goal.ghosts-load_with

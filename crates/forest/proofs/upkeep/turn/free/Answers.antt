@@ -1,10 +1,6 @@
-use Rattle.std.proofs.Common.{◌≡◌, ◌<◌, [], ◌∷◌, refl, sym, ◌∙◌, subst}
-use Rattle.forest.specs.LastingSlots.{memory_let_go}
-use Rattle.forest.specs.UpkeepBook.{HasFreed, IsNameIn, KeepsOthers, Remembers, memory_with_note, numbered, record_numbered, slots_in}
-use Rattle.forest.specs.UpkeepSteps.{HasGoneOnResting}
-use Rattle.forest.specs.declared.memory.NoteView.TheVariants.{OutOfReach}
-use Rattle.forest.proofs.UpkeepLooks.{at_later, at_now, is_word_of, own_now}
-use Rattle.forest.proofs.UpkeepSteps.{rests_on, seat_on}
+use Rattle.forest.specs.UpkeepBook.{slots_in}
+use Rattle.forest.proofs.UpkeepLooks.{at_now, is_word_of, own_now}
+use Rattle.forest.proofs.UpkeepSteps.{rests_on}
 use Rattle.forest.proofs.UpkeepTurn.{empty_now, freed_on, from_pass, gone_now, keeps_on, still_taken}
 use Rattle.forest.proofs.upkeep.turn.free.Goals as goal
 
@@ -39,8 +35,7 @@ clean-requires g c =
     let gone = gone_now t c.args.kind c.args.slot allows r.0 x.later goes.0 c.args.name r.5 goes.1 in
     let there = at_now c.args.words.now c.args.layout.now allows _ c.args.seat.now c.note_gone.new.seat r.0 r.2 c.note_gone.ensures.table x in
     let y = c.let_go.ensures.looked in
-    let on = from_pass allows _ c.note_gone.new.seat.me.0 c.let_go.new.seat.me.0 x.later there.alone y in
-    (
+    let on = from_pass allows _ c.note_gone.new.seat.me.0 c.let_go.new.seat.me.0 x.later there.alone y in (
       y.later,
       at_now c.args.words.now c.args.layout.now allows _ c.note_gone.new.seat c.let_go.new.seat x.later there c.let_go.ensures.table y,
       own_now c.args.words.now c.args.layout.now allows _ c.note_gone.new.seat c.let_go.new.seat x.later there y _ (own_now c.args.words.now c.args.layout.now allows _ c.args.seat.now c.note_gone.new.seat r.0 r.2 x _ r.3),

@@ -1,4 +1,4 @@
-use Rattle.std.proofs.Common.{◌≡◌, Bool, true, false, if◌then◌else◌, [], ◌∷◌, refl, sym, ◌∙◌, subst}
+use Rattle.std.proofs.Common.{Bool, if◌then◌else◌, [], sym, subst}
 use Rattle.slots.specs.Lasting.{IsOwnRecord, IsTaken}
 use Rattle.forest.specs.TableRule.{past_of}
 use Rattle.forest.specs.UpkeepBook.{IsNameIn, KnowsNow, Remembers, memory_with_note, numbered, record_numbered, slots_in}
@@ -8,7 +8,7 @@ use Rattle.forest.specs.declared.upkeep.book.Known.TheVariants.{Found, Used}
 use Rattle.forest.specs.declared.upkeep.kind.RecordKind.{RecordKind}
 use Rattle.forest.specs.declared.upkeep.kind.RecordKind.TheVariants.{Node}
 use Rattle.forest.proofs.UpkeepSteps.{seat_still}
-use Rattle.forest.proofs.UpkeepTurn.{as_known, from_pass, marked_now, unmarked_now, used_still}
+use Rattle.forest.proofs.UpkeepTurn.{as_known, marked_now, unmarked_now, used_still}
 use Rattle.forest.proofs.upkeep.turn.look_at.Goals as goal
 
 pub is_marked-requires : goal.is_marked-requires

@@ -1,8 +1,7 @@
-use Rattle.std.proofs.Common.{◌≡◌, [], ◌∷◌, refl, sym, ◌∙◌, subst}
+use Rattle.std.proofs.Common.{sym, subst}
 use Rattle.histories.specs.Common.{Layout}
 use Rattle.slots.specs.Lasting.{IsOwnRecord}
-use Rattle.forest.specs.UpkeepBook.{HasFreed, IsKnownSo, KnowsNow, Remembers, memory_with_note, numbered, record_numbered, slots_in}
-use Rattle.forest.specs.declared.memory.NoteView.TheVariants.{DeadBy}
+use Rattle.forest.specs.UpkeepBook.{HasFreed, IsKnownSo, KnowsNow, record_numbered, slots_in}
 use Rattle.forest.specs.declared.upkeep.book.Known.{Known}
 use Rattle.forest.specs.declared.upkeep.book.Known.TheVariants.{Dying, Free}
 use Rattle.forest.proofs.UpkeepLooks.{is_word_of}

@@ -1,11 +1,8 @@
-use Rattle.std.proofs.Common.{◌≡◌, ◌<◌, ◌+◌, ℕ, [], ◌∷◌, length, refl, sym, ◌∙◌, ap, subst, arith}
+use Rattle.std.proofs.Common.{◌<◌, ◌+◌, length, refl, sym, ◌∙◌, subst, arith}
 use Rattle.std.proofs.lemmas.List.{length-set}
-use Rattle.histories.specs.Common.{Layout}
-use Rattle.slots.specs.Lasting.{IsOwnRecord}
-use Rattle.forest.specs.UpkeepBook.{HasTakenBelow, KnowsNow, record_numbered, slots_in}
-use Rattle.forest.specs.declared.upkeep.kind.RecordKind.{RecordKind}
-use Rattle.forest.proofs.UpkeepLooks.{at_now}
-use Rattle.forest.proofs.UpkeepSteps.{rests_on, seat_on, seat_still}
+use Rattle.forest.specs.UpkeepBook.{KnowsNow, slots_in}
+use Rattle.forest.proofs.UpkeepLooks.{at_now, table_in}
+use Rattle.forest.proofs.UpkeepSteps.{rests_on, seat_still}
 use Rattle.forest.proofs.UpkeepTurn.{ended_on, from_pass}
 use Rattle.forest.proofs.UpkeepTurns.{TurnsTo, all_turned, none_turned, one_turned, own_slot, read_at, taken_on}
 use Rattle.forest.proofs.upkeep.turn.turn_all.Goals as goal
@@ -29,14 +26,16 @@ turn-requires g c =
     let inv = c.loop-i.invariant in
     let so = inv.so in
     let on = from_pass allows (TurnsTo t old own c.loop-i.i) c.args.seat.now.me.0 c.loop-i.seat.me.0 r.0 r.2.alone so in
-    let inside : c.loop-i.i < length own.slots.items = ? in (
+    let len = old.slots.ok.0 in
+    let less : c.loop-i.i < length old.slots.items = omega (arith, c.loop-i-test.true, c.len-i-end.ensures, len) in
+    let inside : c.loop-i.i < length own.slots.items = subst (λ n. c.loop-i.i < n) (sym inv.count) less in (
       so.later,
       r.1,
       at_now c.args.words.now c.args.layout.now allows (TurnsTo t old own c.loop-i.i) c.args.seat.now c.loop-i.seat r.0 r.2 inv.stays so,
-      ?,
+      own_slot t c.args.layout.now r.0 so.later old own.kind own.first c.loop-i.i (table_in c.args.words.now c.args.layout.now c.args.seat.now r.0 r.2) r.5.all on.0.number inv.kind inv.first less,
       ended_on allows r.0 so.later on.0 t r.1 on.1.rests r.3,
-      ?,
-      on.1.waits r.1 r.5 r.3 c.loop-i.i c.index.result.now (omega arith) (subst (λ n. c.loop-i.i < n) inv.count inside) (read_at own.slots.items c.loop-i.i c.index.result.now inside c.index.ensures),
+      taken_on allows r.0 so.later on.0 own.kind old.kind c.args.next inv.kind r.4,
+      on.1.waits r.1 r.5 r.3 c.loop-i.i c.index.result.now (omega arith) less (read_at own.slots.items c.loop-i.i c.index.result.now inside c.index.ensures),
     )
 
 pub loop-i-preserved : goal.loop-i-preserved
@@ -46,12 +45,24 @@ loop-i-preserved g c =
     let old = c.args.own.now in
     let own = c.loop-i.own in
     let i = c.loop-i.i in
-    let inv = c.loop-i.invariant in record {
+    let inv = c.loop-i.invariant in
+    let r = c.requires in
+    let so = inv.so in
+    let on = from_pass allows (TurnsTo t old own i) c.args.seat.now.me.0 c.loop-i.seat.me.0 r.0 r.2.alone so in
+    let y = c.turn.ensures.turned in
+    let next = from_pass allows (KnowsNow t own.kind (own.first + i) c.turn.result) c.loop-i.seat.me.0 c.turn.new.seat.me.0 so.later so.is y in record {
       stays = (c.turn.ensures.table.0 ∙ inv.stays.0, c.turn.ensures.table.1 ∙ inv.stays.1);
       kind = inv.kind;
       first = inv.first;
       count = length-set own.slots.items i c.turn.result ∙ inv.count;
-      so = ?;
+      so = record {
+        pass = r.0;
+        later = y.later;
+        was = r.2.alone;
+        is = y.is;
+        goes_on = rests_on allows r.0 so.later y.later on.0 next.0;
+        holds = one_turned t old allows own _ i c.turn.result refl refl refl r.0 so.later y.later next.0 next.1 on.1;
+      };
     }
 
 pub returns-clause-table : goal.returns-clause-table
@@ -70,11 +81,12 @@ returns-clause-turned g c =
     let inv = c.loop-i.invariant in
     let so = inv.so in
     let on = from_pass allows (TurnsTo t old own c.loop-i.i) c.args.seat.now.me.0 c.loop-i.seat.me.0 r.0 r.2.alone so in
+    let len = old.slots.ok.0 in
     record {
       pass = r.0;
       later = so.later;
       was = r.2.alone;
       is = so.is;
       goes_on = on.0;
-      holds = all_turned t old own c.loop-i.i r.0 so.later r.1 inv.kind inv.first inv.count ? on.0.number r.5 r.3 on.1;
+      holds = all_turned t old own c.loop-i.i r.0 so.later r.1 inv.kind inv.first inv.count (omega (arith, c.loop-i-test.false, c.loop-i.auto.i-end, c.len-i-end.ensures, len)) on.0.number r.5 r.3 on.1;
     }
