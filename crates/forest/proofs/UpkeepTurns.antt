@@ -7,7 +7,7 @@ use Rattle.histories.specs.Common.{Layout, Row, History, Extends}
 use Rattle.planting.specs.Plantings.{PlantingView}
 use Rattle.slots.specs.Lasting.{IsOwnRecord, Lasting}
 use Rattle.forest.specs.TableRule.{history_of, past_of}
-use Rattle.forest.specs.UpkeepBook.{AreAllOwn, AreSlotsSo, HasEnded, HasTakenBelow, HasTurned, IsBook, IsKnownSo, IsSlotSo, KeepsOthers, KeepsRests, KnowsNow, count_own, first_own, record_numbered}
+use Rattle.forest.specs.UpkeepBook.{AreAllOwn, AreSameSlots, AreSlotsSo, HasEnded, HasTakenBelow, HasTurned, IsBook, IsKnownSo, IsSlotSo, KeepsOthers, KeepsRests, KnowsNow, count_own, dealt_of, first_own, record_numbered, turn_of}
 use Rattle.forest.specs.UpkeepSteps.{HasGoneOnResting}
 use Rattle.forest.specs.declared.upkeep.book.OwnSlot.{OwnSlot}
 use Rattle.forest.specs.declared.upkeep.book.OwnSlots.{OwnSlots}
@@ -65,6 +65,16 @@ own_slot t lay p q old kind first i same all number is_kind is_first inside =
     go Node e less = record { from = omega (arith, e); below = omega (arith, e, less) }
     go Scx e less = record { from = omega (arith, e); below = omega (arith, e, less) }
 
+-- they are all slots of the pass still
+pub own_on : (t : Lasting) (p q : SeatedPass) (old own : OwnSlots) → AreSameSlots old own → q.number ≡ p.number → dealt_of own.kind q.memory ≡ dealt_of own.kind p.memory → AreAllOwn t p old → AreAllOwn t q own
+own_on t p q old own same number dealt all = record {
+  first = same.first ∙ all.first ∙ ap (λ (k : RecordKind). first_own k t.table p.number.0) (sym same.kind) ∙ ap (λ (n : PassNo). first_own own.kind t.table n.0) (sym number);
+  count = same.count ∙ all.count ∙ ap (λ (k : RecordKind). count_own k t.table) (sym same.kind);
+  turn = same.turn ∙ all.turn ∙ ap (λ (k : RecordKind). turn_of k t) (sym same.kind);
+  end = same.end ∙ all.end ∙ ap (λ (k : RecordKind). first_own k t.lay p.number.0 + count_own k t.lay) (sym same.kind) ∙ ap (λ (n : PassNo). first_own own.kind t.lay n.0 + count_own own.kind t.lay) (sym number);
+  dealt = same.dealt ∙ all.dealt ∙ ap (λ (k : RecordKind). dealt_of k p.memory) (sym same.kind) ∙ sym dealt;
+}
+
 -- names that were taken still are
 pub taken_on : (allows : Layout → History → ℕ → Type 0) (p q : SeatedPass) → HasGoneOnResting allows p q → (kind old_kind : RecordKind) (next : ℕ) → kind ≡ old_kind → HasTakenBelow p old_kind next → HasTakenBelow q kind next
 taken_on allows p q goes kind old_kind next same taken = subst (λ (k : RecordKind). HasTakenBelow q k next) (sym same) (λ n own below. still_taken allows p q goes (record_numbered old_kind n) (taken n
@@ -110,14 +120,15 @@ module _ (t : Lasting) (old : OwnSlots) where
     }
 
   -- all
-  pub all_turned : (own : OwnSlots) (i : ℕ) (p q : SeatedPass) (since : List Row) → own.kind ≡ old.kind → own.first ≡ old.first → length own.slots.items ≡ length old.slots.items → i ≡ length old.slots.items → q.number ≡ p.number → IsBook t p since old → HasEnded t p since → TurnsTo t old own i p q → HasTurned t own p q
-  all_turned own i p q since kind first count all number book ended z = record {
+  pub all_turned : (own : OwnSlots) (i : ℕ) (p q : SeatedPass) (since : List Row) → AreSameSlots old own → i ≡ length old.slots.items → q.number ≡ p.number → IsBook t p since old → HasEnded t p since → TurnsTo t old own i p q → HasTurned t own p q
+  all_turned own i p q since same all number book ended z = record {
     rests = z.rests;
     book = record {
-      all = record {
-        first = first ∙ book.all.first ∙ ap (λ (k : RecordKind). first_own k t.table p.number.0) (sym kind) ∙ ap (λ (n : PassNo). first_own own.kind t.table n.0) (sym number);
-        count = count ∙ book.all.count ∙ ap (λ (k : RecordKind). count_own k t.table) (sym kind);
-      };
-      slots = λ j x from to there. z.turned since book ended j x from (subst (λ n. j < n) (count ∙ sym all) to) there;
+      all = own_on t p q old own same number (dealt_same own.kind) book.all;
+      slots = λ j x from to there. z.turned since book ended j x from (subst (λ n. j < n) (same.count ∙ sym all) to) there;
     };
   }
+    where
+      dealt_same : (k : RecordKind) → dealt_of k q.memory ≡ dealt_of k p.memory
+      dealt_same Node = z.rests.nodes_to
+      dealt_same Scx = z.rests.scx_to

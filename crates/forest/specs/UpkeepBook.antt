@@ -52,6 +52,16 @@ abbrev pub count_own : RecordKind → Layout → ℕ
 count_own Node lay = lay.nodes
 count_own Scx lay = lay.scx
 
+-- so many names on, one has the same slot
+abbrev pub turn_of : RecordKind → Lasting → ℕ
+turn_of Node t = t.node_turn
+turn_of Scx t = t.scx_turn
+
+-- the pass's names below this one are dealt, or passed over
+abbrev pub dealt_of : RecordKind → PassMemory → ℕ
+dealt_of Node m = m.nodes_to
+dealt_of Scx m = m.scx_to
+
 -- A pass at its table
 
 -- how the records of the table have slots
@@ -136,10 +146,22 @@ IsSlotSo t p since kind slot x = IsKnownSo t p.planting p.number.0 p.memory sinc
 abbrev pub AreSlotsSo : Lasting → SeatedPass → (since : List Row) → OwnSlots → (from to : ℕ) → Type 0
 AreSlotsSo t p since own from to = (i : ℕ) (x : OwnSlot) → from ≤ i → i < to → slice_get own.slots.items i ≡ Some x → IsSlotSo t p since own.kind (own.first + i) x
 
--- they are all slots of the pass of this kind
+-- they are all slots of the pass of this kind, and it says of its names what is so
 pub record AreAllOwn (t : Lasting) (p : SeatedPass) (own : OwnSlots) : Type 0 where
   pub first : own.first ≡ first_own own.kind t.table p.number.0
   pub count : length own.slots.items ≡ count_own own.kind t.table
+  pub turn : own.turn ≡ turn_of own.kind t
+  pub end : own.end ≡ first_own own.kind t.lay p.number.0 + count_own own.kind t.lay
+  pub dealt : own.dealt ≡ dealt_of own.kind p.memory
+
+-- they are the same slots, and get the same names next
+pub record AreSameSlots (old new : OwnSlots) : Type 0 where
+  pub kind : new.kind ≡ old.kind
+  pub first : new.first ≡ old.first
+  pub turn : new.turn ≡ old.turn
+  pub end : new.end ≡ old.end
+  pub dealt : new.dealt ≡ old.dealt
+  pub count : length new.slots.items ≡ length old.slots.items
 
 -- The own slots of the pass p, of one kind, are as it knows: what was found, or is dying, was so by
 -- the moment `since`.

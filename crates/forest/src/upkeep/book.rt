@@ -23,12 +23,19 @@ pub(crate) struct OwnSlot {
     pub(crate) known: Known,
 }
 
-/// The slots of a pass, of one kind, from the first one on. They are made once.
+/// The slots of a pass, of one kind, from the first one on, and which names they get. They are made
+/// once.
 #[derive(Drop)]
 pub(crate) struct OwnSlots {
     pub(crate) kind: RecordKind,
     /// The number of the first.
     pub(crate) first: u64,
+    /// A name has the slot of the one that is so many before it.
+    pub(crate) turn: u64,
+    /// Where the pass's names end.
+    pub(crate) end: u64,
+    /// Its names below this one are dealt, or passed over.
+    pub(crate) dealt: u64,
     pub(crate) slots: Vec<OwnSlot>,
     ghost fits: { first + vec_len slots ≤ 2 ^ 63 },
 }

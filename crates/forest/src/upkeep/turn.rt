@@ -5,7 +5,7 @@ ghost use Rattle.slots.specs.Lasting.{IsOwnRecord, IsTaken};
 ghost use Rattle.forest.specs.Seats.{StaysAtTable};
 ghost use Rattle.forest.specs.TableRule.{past_of};
 ghost use Rattle.forest.specs.UpkeepSteps.{RestsOn};
-ghost use Rattle.forest.specs.UpkeepBook.{HasEnded, HasFreed, HasTakenBelow, HasTurned, IsAtLasting, IsBook, IsNameIn, IsSlotSo, KnowsNow, WasDying, record_numbered, slots_in};
+ghost use Rattle.forest.specs.UpkeepBook.{AreSameSlots, HasEnded, HasFreed, HasTakenBelow, HasTurned, IsAtLasting, IsBook, IsNameIn, IsSlotSo, KnowsNow, WasDying, record_numbered, slots_in};
 ghost use Rattle.forest.specs.declared.view.SeatedPass.{SeatedPass};
 
 use crate::upkeep::book::{Known, OwnSlot, OwnSlots};
@@ -31,8 +31,7 @@ pub(crate) fn turn_all<S: Shape>(
         × HasEnded (slots_in words.now) p since × HasTakenBelow p own.old.kind next
         × IsBook (slots_in words.now) p since own.old }
     ensures table { StaysAtTable seat.old seat.new }
-    ensures same { (own.new.kind ≡ own.old.kind) × (own.new.first ≡ own.old.first)
-        × (length own.new.slots.items ≡ length own.old.slots.items) }
+    ensures same { AreSameSlots own.old own.new }
     ensures turned { RestsOn S.allows (HasTurned (slots_in words.now) own.new)
         seat.old.me.0 seat.new.me.0 }
 {

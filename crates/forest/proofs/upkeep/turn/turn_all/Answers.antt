@@ -10,9 +10,7 @@ use Rattle.forest.proofs.upkeep.turn.turn_all.Goals as goal
 pub loop-i-init : goal.loop-i-init
 loop-i-init g c = let r = c.requires in record {
   stays = (refl, refl);
-  kind = refl;
-  first = refl;
-  count = refl;
+  same = record { kind = refl; first = refl; turn = refl; end = refl; dealt = refl; count = refl };
   so = seat_still g.S.Shape.allows (TurnsTo (slots_in c.args.words.now) c.args.own.now c.args.own.now 0) r.0 c.args.seat.now.me.0 r.2.alone (none_turned (slots_in c.args.words.now) c.args.own.now r.0);
 }
 
@@ -28,13 +26,13 @@ turn-requires g c =
     let on = from_pass allows (TurnsTo t old own c.loop-i.i) c.args.seat.now.me.0 c.loop-i.seat.me.0 r.0 r.2.alone so in
     let len = old.slots.ok.0 in
     let less : c.loop-i.i < length old.slots.items = omega (arith, c.loop-i-test.true, c.len-i-end.ensures, len) in
-    let inside : c.loop-i.i < length own.slots.items = subst (λ n. c.loop-i.i < n) (sym inv.count) less in (
+    let inside : c.loop-i.i < length own.slots.items = subst (λ n. c.loop-i.i < n) (sym inv.same.count) less in (
       so.later,
       r.1,
       at_now c.args.words.now c.args.layout.now allows (TurnsTo t old own c.loop-i.i) c.args.seat.now c.loop-i.seat r.0 r.2 inv.stays so,
-      own_slot t c.args.layout.now r.0 so.later old own.kind own.first c.loop-i.i (table_in c.args.words.now c.args.layout.now c.args.seat.now r.0 r.2) r.5.all on.0.number inv.kind inv.first less,
+      own_slot t c.args.layout.now r.0 so.later old own.kind own.first c.loop-i.i (table_in c.args.words.now c.args.layout.now c.args.seat.now r.0 r.2) r.5.all on.0.number inv.same.kind inv.same.first less,
       ended_on allows r.0 so.later on.0 t r.1 on.1.rests r.3,
-      taken_on allows r.0 so.later on.0 own.kind old.kind c.args.next inv.kind r.4,
+      taken_on allows r.0 so.later on.0 own.kind old.kind c.args.next inv.same.kind r.4,
       on.1.waits r.1 r.5 r.3 c.loop-i.i c.index.result.now (omega arith) less (read_at own.slots.items c.loop-i.i c.index.result.now inside c.index.ensures),
     )
 
@@ -52,9 +50,7 @@ loop-i-preserved g c =
     let y = c.turn.ensures.turned in
     let next = from_pass allows (KnowsNow t own.kind (own.first + i) c.turn.result) c.loop-i.seat.me.0 c.turn.new.seat.me.0 so.later so.is y in record {
       stays = (c.turn.ensures.table.0 ∙ inv.stays.0, c.turn.ensures.table.1 ∙ inv.stays.1);
-      kind = inv.kind;
-      first = inv.first;
-      count = length-set own.slots.items i c.turn.result ∙ inv.count;
+      same = record { kind = inv.same.kind; first = inv.same.first; turn = inv.same.turn; end = inv.same.end; dealt = inv.same.dealt; count = length-set own.slots.items i c.turn.result ∙ inv.same.count };
       so = record {
         pass = r.0;
         later = y.later;
@@ -69,7 +65,7 @@ pub returns-clause-table : goal.returns-clause-table
 returns-clause-table g c = c.loop-i.invariant.stays
 
 pub returns-clause-same : goal.returns-clause-same
-returns-clause-same g c = let inv = c.loop-i.invariant in (inv.kind, inv.first, inv.count)
+returns-clause-same g c = c.loop-i.invariant.same
 
 pub returns-clause-turned : goal.returns-clause-turned
 returns-clause-turned g c =
@@ -88,5 +84,5 @@ returns-clause-turned g c =
       was = r.2.alone;
       is = so.is;
       goes_on = on.0;
-      holds = all_turned t old own c.loop-i.i r.0 so.later r.1 inv.kind inv.first inv.count (omega (arith, c.loop-i-test.false, c.loop-i.auto.i-end, c.len-i-end.ensures, len)) on.0.number r.5 r.3 on.1;
+      holds = all_turned t old own c.loop-i.i r.0 so.later r.1 inv.same (omega (arith, c.loop-i-test.false, c.loop-i.auto.i-end, c.len-i-end.ensures, len)) on.0.number r.5 r.3 on.1;
     }
