@@ -1,5 +1,5 @@
 -- What a pass knows of its slots stays so while it does something with another slot.
-use Rattle.std.proofs.Common.{◌≡◌, ◌≢◌, ℕ, Bool, true, false, eqb-true, List, [], ◌∷◌, if◌then◌else◌, inl, inr, refl, sym, ◌∙◌, ap}
+use Rattle.std.proofs.Common.{◌≡◌, ◌≢◌, ℕ, Bool, true, false, eqb-true, List, [], ◌∷◌, if◌then◌else◌, inl, inr, refl, sym, ◌∙◌, ap, subst}
 use Rattle.histories.specs.Common.{Row, Extends, Word}
 use Rattle.arena.proofs.Lemmas.{ends_trans}
 use Rattle.planting.specs.Plantings.{PlantingView}
@@ -53,21 +53,30 @@ rests_on a b c x y = record {
   scx_to = y.scx_to ∙ x.scx_to;
 }
 
-pub spares_same : (t : Lasting) (slot : Record) (m : PassMemory) → SparesOthers t slot m m
-spares_same t slot m = record { notes = λ x i. i; holds = λ x i d. i; empty = λ x i d. i; zeros = λ w i d. i }
+pub spares_same : (t : Lasting) (Is : Record → Type 0) (m : PassMemory) → SparesOthers t Is m m
+spares_same t Is m = record { notes = λ x i. i; holds = λ x i d. i; empty = λ x i d. i; zeros = λ w i d. i }
 
-pub spares_on : (t : Lasting) (slot : Record) (a b c : PassMemory) → SparesOthers t slot a b → SparesOthers t slot b c → SparesOthers t slot a c
-spares_on t slot a b c x y = record {
+pub spares_on : (t : Lasting) (Is : Record → Type 0) (a b c : PassMemory) → SparesOthers t Is a b → SparesOthers t Is b c → SparesOthers t Is a c
+spares_on t Is a b c x y = record {
   notes = λ n i. y.notes n (x.notes n i);
   holds = λ n i d. y.holds n (x.holds n i d) d;
   empty = λ n i d. y.empty n (x.empty n i d) d;
   zeros = λ w i d. y.zeros w (x.zeros w i d) d;
 }
 
-pub spares_note : (t : Lasting) (slot : Record) (m : PassMemory) (name : RecordNo) (note : NoteView) → SparesOthers t slot m (memory_with_note m name note)
-spares_note t slot m name note = record { notes = λ x i. inr i; holds = λ x i d. i; empty = λ x i d. i; zeros = λ w i d. i }
+-- more are spared than these
+pub spares_more : (t : Lasting) (Is More : Record → Type 0) (m n : PassMemory) → ((r : Record) → Is r → More r) → SparesOthers t Is m n → SparesOthers t More m n
+spares_more t Is More m n to x = record {
+  notes = x.notes;
+  holds = λ y i d. x.holds y i (λ z. d (to _ z));
+  empty = λ y i d. x.empty y i (λ z. d (to _ z));
+  zeros = λ w i d. x.zeros w i (λ z. d (to _ z));
+}
 
-pub spares_let_go : (t : Lasting) (m : PassMemory) (name : RecordNo) (slot : Record) → slot_of t (record_at name) ≡ slot → SparesOthers t slot m (memory_let_go t m name)
+pub spares_note : (t : Lasting) (Is : Record → Type 0) (m : PassMemory) (name : RecordNo) (note : NoteView) → SparesOthers t Is m (memory_with_note m name note)
+spares_note t Is m name note = record { notes = λ x i. inr i; holds = λ x i d. i; empty = λ x i d. i; zeros = λ w i d. i }
+
+pub spares_let_go : (t : Lasting) (m : PassMemory) (name : RecordNo) (slot : Record) → slot_of t (record_at name) ≡ slot → SparesOthers t (λ r. r ≡ slot) m (memory_let_go t m name)
 spares_let_go t m name slot is = record {
   notes = λ x i. i;
   holds = λ x i d. among_others record_at (record_at name) x m.holds i (λ e. d (ap (slot_of t) e ∙ is));
@@ -75,8 +84,8 @@ spares_let_go t m name slot is = record {
   zeros = λ w i d. i;
 }
 
-pub spares_cleared : (t : Lasting) (slot : Record) (m : PassMemory) (w : Word) → SparesOthers t slot m (memory_cleared m w)
-spares_cleared t slot m w = record { notes = λ x i. i; holds = λ x i d. i; empty = λ x i d. i; zeros = λ u i d. inr i }
+pub spares_cleared : (t : Lasting) (Is : Record → Type 0) (m : PassMemory) (w : Word) → SparesOthers t Is m (memory_cleared m w)
+spares_cleared t Is m w = record { notes = λ x i. i; holds = λ x i d. i; empty = λ x i d. i; zeros = λ u i d. inr i }
 
 -- What is known of a slot
 
@@ -84,10 +93,10 @@ spares_cleared t slot m w = record { notes = λ x i. i; holds = λ x i d. i; emp
 pub slot_record : (t : Lasting) (kind : RecordKind) (slot name : ℕ) → slot_number t (numbered kind name) ≡ numbered kind slot → slot_of t (record_numbered kind name) ≡ record_numbered kind slot
 slot_record t kind slot name is = sym (slot_number_is t (numbered kind name)) ∙ ap record_at is
 
-module _ (t : Lasting) (planting : PlantingView) (o : ℕ) (m n : PassMemory) (other : Record) (spares : SparesOthers t other m n) (since later : List Row) (on : Extends (history_of planting later) (history_of planting since)) (kind : RecordKind) (slot name : ℕ) (apart : record_numbered kind slot ≢ other) where
+module _ (t : Lasting) (planting : PlantingView) (o : ℕ) (m n : PassMemory) (Is : Record → Type 0) (spares : SparesOthers t Is m n) (since later : List Row) (on : Extends (history_of planting later) (history_of planting since)) (kind : RecordKind) (slot name : ℕ) (apart : ¬ Is (record_numbered kind slot)) where
   name_kept : IsNameIn t o m kind slot name → IsNameIn t o n kind slot name
   name_kept x = record {
-    held = spares.holds (numbered kind name) x.held (λ e. apart (sym (slot_record t kind slot name x.slot_is) ∙ e));
+    held = spares.holds (numbered kind name) x.held (λ e. apart (subst Is (slot_record t kind slot name x.slot_is) e));
     own = x.own;
     slot_is = x.slot_is;
   }
@@ -99,5 +108,5 @@ module _ (t : Lasting) (planting : PlantingView) (o : ℕ) (m n : PassMemory) (o
   known_kept Dying x = (name_kept x.0, let f = x.1 in record { rows = f.rows; noted = spares.notes _ f.noted; before = ends_trans _ _ _ on f.before })
   known_kept Free x = record {
     empty = spares.empty (numbered kind slot) x.empty apart;
-    zeros = λ w i e. spares.zeros w (x.zeros w i e) (λ q. apart (sym e ∙ q));
+    zeros = λ w i e. spares.zeros w (x.zeros w i e) (λ q. apart (subst Is e q));
   }

@@ -71,25 +71,25 @@ module _ (t : Lasting) (kind : RecordKind) (slot : ℕ) where
   -- if nothing is done with it
   pub nothing_done : (p : SeatedPass) (since : List Row) (x : OwnSlot) → HasEnded t p since → IsSlotSo t p since kind slot x → KnowsNow t kind slot x p p
   nothing_done p since x ended so = record {
-    keeps = record { rests = rests_same p.memory; others = spares_same t (record_numbered kind slot) p.memory };
+    keeps = record { rests = rests_same p.memory; others = spares_same t (λ r. r ≡ record_numbered kind slot) p.memory };
     so = known_later t p.planting p.number.0 p.memory since p.known ended.known kind slot x.name x.known so;
   }
 
   -- if it is in use, and not looked at
   pub used_still : (p : SeatedPass) (name : ℕ) → IsNameIn t p.number.0 p.memory kind slot name → KnowsNow t kind slot record { name = name; known = Used } p p
-  used_still p name x = record { keeps = record { rests = rests_same p.memory; others = spares_same t (record_numbered kind slot) p.memory }; so = x }
+  used_still p name x = record { keeps = record { rests = rests_same p.memory; others = spares_same t (λ r. r ≡ record_numbered kind slot) p.memory }; so = x }
 
   module _ (allows : Layout → History → ℕ → Type 0) (p q : SeatedPass) (goes : HasGoneOnResting allows p q) (name : ℕ) (x : IsNameIn t p.number.0 p.memory kind slot name) where
     -- if it was looked at, and is not marked
     pub unmarked_now : Remembers (λ m rows. m) p q → KnowsNow t kind slot record { name = name; known = Used } p q
     unmarked_now e = record {
-      keeps = subst (λ (m : PassMemory). KeepsOthers t (record_numbered kind slot) p record q { memory = m }) (sym e) record { rests = rests_same p.memory; others = spares_same t (record_numbered kind slot) p.memory };
+      keeps = subst (λ (m : PassMemory). KeepsOthers t (record_numbered kind slot) p record q { memory = m }) (sym e) record { rests = rests_same p.memory; others = spares_same t (λ r. r ≡ record_numbered kind slot) p.memory };
       so = name_stays allows p q goes t kind slot name (ap (λ (m : PassMemory). m.holds) e) x;
     }
 
     keeps_noted : (note : NoteView) → q.memory ≡ memory_with_note p.memory (numbered kind name) note → KeepsOthers t (record_numbered kind slot) p q
     keeps_noted note e = subst (λ (m : PassMemory). KeepsOthers t (record_numbered kind slot) p record q { memory = m }) (sym e)
-        record { rests = record { rested = refl; away = refl; often = refl; polls = refl; nodes_to = refl; scx_to = refl }; others = spares_note t (record_numbered kind slot) p.memory (numbered kind name) note }
+        record { rests = record { rested = refl; away = refl; often = refl; polls = refl; nodes_to = refl; scx_to = refl }; others = spares_note t (λ r. r ≡ record_numbered kind slot) p.memory (numbered kind name) note }
 
     now_noted : (note : NoteView) → q.memory ≡ memory_with_note p.memory (numbered kind name) note → IsAmongThese (noted_as (numbered kind name) note) q.memory.notes
     now_noted note e = subst (λ (m : PassMemory). IsAmongThese (noted_as (numbered kind name) note) m.notes) (sym e) (inl refl)
@@ -129,7 +129,7 @@ as_known allows t kind slot x v w so p one to y = let on = from_pass allows so v
 
 module _ (t : Lasting) (kind : RecordKind) (slot : ℕ) where
   pub keeps_on : (p q r : SeatedPass) → KeepsOthers t (record_numbered kind slot) p q → KeepsOthers t (record_numbered kind slot) q r → KeepsOthers t (record_numbered kind slot) p r
-  keeps_on p q r x y = record { rests = rests_on p.memory q.memory r.memory x.rests y.rests; others = spares_on t (record_numbered kind slot) p.memory q.memory r.memory x.others y.others }
+  keeps_on p q r x y = record { rests = rests_on p.memory q.memory r.memory x.rests y.rests; others = spares_on t (λ r. r ≡ record_numbered kind slot) p.memory q.memory r.memory x.others y.others }
 
   -- it was let go, and is clean
   pub freed_on : (p q r : SeatedPass) → KeepsOthers t (record_numbered kind slot) p q → HasFreed t kind slot q r → HasFreed t kind slot p r
@@ -145,14 +145,14 @@ module _ (t : Lasting) (kind : RecordKind) (slot : ℕ) where
 
   pub none_cleared : (p : SeatedPass) → IsAmongThese (numbered kind slot) p.memory.empty → IsClearedTo 0 p p
   none_cleared p empty = record {
-    keeps = record { rests = rests_same p.memory; others = spares_same t (record_numbered kind slot) p.memory };
+    keeps = record { rests = rests_same p.memory; others = spares_same t (λ r. r ≡ record_numbered kind slot) p.memory };
     empty = empty;
     zeros = λ w i e less. absurd (omega (arith, less));
   }
 
   pub one_cleared : (place : ℕ) (p q r : SeatedPass) (word : Word) → ((other : Word) → IsWord t.table other → record_of other ≡ record_numbered kind slot → offset other ≡ place → other ≡ word) → IsClearedTo place p q → Remembers (λ m rows. memory_cleared m word) q r → IsClearedTo (place + 1) p r
   one_cleared place p q r word only x e = subst (λ (m : PassMemory). IsClearedTo (place + 1) p record r { memory = m }) (sym e) record {
-    keeps = keeps_on p q record r { memory = memory_cleared q.memory word } x.keeps record { rests = record { rested = refl; away = refl; often = refl; polls = refl; nodes_to = refl; scx_to = refl }; others = spares_cleared t (record_numbered kind slot) q.memory word };
+    keeps = keeps_on p q record r { memory = memory_cleared q.memory word } x.keeps record { rests = record { rested = refl; away = refl; often = refl; polls = refl; nodes_to = refl; scx_to = refl }; others = spares_cleared t (λ r. r ≡ record_numbered kind slot) q.memory word };
     empty = x.empty;
     zeros = λ w i same less. go w i same less (ℕ_discrete (offset w) place);
   }

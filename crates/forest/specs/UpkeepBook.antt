@@ -3,7 +3,7 @@ use Rattle.std.specs.Prelude.{◌≡◌, ◌≢◌, ◌+◌, ◌<◌, ◌≤◌,
 use Rattle.atomic_table.specs.declared.shared.Seat.{Seat}
 use Rattle.histories.specs.Common.{Layout, Row, History, Extends, Word, IsWord, first_node, first_scx}
 use Rattle.planting.specs.Plantings.{PlantingView}
-use Rattle.resting.specs.Records.{Record, record_of}
+use Rattle.resting.specs.Records.{Record, record_of, the_node, the_scx}
 use Rattle.slots.specs.Lasting.{IsOwnRecord, IsTaken, Lasting, slot_of}
 use Rattle.forest.specs.LastingMemory.{record_at}
 use Rattle.forest.specs.LastingNotes.{HasSeenAllRest, IsAmongThese, noted_as}
@@ -37,6 +37,12 @@ numbered Scx n = ScxRecord record { 0 = n }
 
 abbrev pub record_numbered : RecordKind → ℕ → Record
 record_numbered kind n = record_at (numbered kind n)
+
+-- the record is of this kind
+abbrev pub IsOfKind : RecordKind → Record → Type 0
+IsOfKind Node (the_node n) = Unit {0}
+IsOfKind Scx (the_scx s) = Unit {0}
+IsOfKind _ _ = ⊥
 
 -- how many words such a record has
 abbrev pub parts_of : RecordKind → ℕ
@@ -97,13 +103,13 @@ Remembers after p q = q.memory ≡ after p.memory q.known
 abbrev pub memory_with_note : PassMemory → RecordNo → NoteView → PassMemory
 memory_with_note m name note = record m { notes = noted_as name note ∷ m.notes }
 
--- What a pass remembers of names and of words of other slots than that one it still does, and all
--- that it has noted.
-pub record SparesOthers (t : Lasting) (slot : Record) (m n : PassMemory) : Type 0 where
+-- What a pass remembers of names and of words of other slots than those it still does, and all that
+-- it has noted.
+pub record SparesOthers (t : Lasting) (Is : Record → Type 0) (m n : PassMemory) : Type 0 where
   pub notes : (x : Noted) → IsAmongThese x m.notes → IsAmongThese x n.notes
-  pub holds : (x : RecordNo) → IsAmongThese x m.holds → slot_of t (record_at x) ≢ slot → IsAmongThese x n.holds
-  pub empty : (x : RecordNo) → IsAmongThese x m.empty → record_at x ≢ slot → IsAmongThese x n.empty
-  pub zeros : (w : Word) → IsAmongThese w m.zeros → record_of w ≢ slot → IsAmongThese w n.zeros
+  pub holds : (x : RecordNo) → IsAmongThese x m.holds → ¬ Is (slot_of t (record_at x)) → IsAmongThese x n.holds
+  pub empty : (x : RecordNo) → IsAmongThese x m.empty → ¬ Is (record_at x) → IsAmongThese x n.empty
+  pub zeros : (w : Word) → IsAmongThese w m.zeros → ¬ Is (record_of w) → IsAmongThese w n.zeros
 
 -- Own slots
 
@@ -181,7 +187,7 @@ pub record HasEnded (t : Lasting) (p : SeatedPass) (since : List Row) : Type 0 w
 -- The pass p, which is q now, has done something with that slot alone.
 pub record KeepsOthers (t : Lasting) (slot : Record) (p q : SeatedPass) : Type 0 where
   pub rests : KeepsRests p.memory q.memory
-  pub others : SparesOthers t slot p.memory q.memory
+  pub others : SparesOthers t (λ r. r ≡ slot) p.memory q.memory
 
 -- and this is known of it now
 pub record KnowsNow (t : Lasting) (kind : RecordKind) (slot : ℕ) (x : OwnSlot) (p q : SeatedPass) : Type 0 where
@@ -193,7 +199,8 @@ pub record HasFreed (t : Lasting) (kind : RecordKind) (slot : ℕ) (p q : Seated
   pub keeps : KeepsOthers t (record_numbered kind slot) p q
   pub clean : IsCleanSlot t q.memory kind slot
 
--- the pass p, which is q now, has a book that is right
+-- the pass p, which is q now, has a book that is right, and that of its other records still is
 pub record HasTurned (t : Lasting) (own : OwnSlots) (p q : SeatedPass) : Type 0 where
   pub rests : KeepsRests p.memory q.memory
   pub book : IsBook t q q.known own
+  pub others : (other : OwnSlots) (since : List Row) → other.kind ≢ own.kind → IsBook t p since other → IsBook t q since other

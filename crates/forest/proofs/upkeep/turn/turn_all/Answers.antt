@@ -57,7 +57,7 @@ loop-i-preserved g c =
         was = r.2.alone;
         is = y.is;
         goes_on = rests_on allows r.0 so.later y.later on.0 next.0;
-        holds = one_turned t old allows own _ i c.turn.result refl refl refl r.0 so.later y.later next.0 next.1 on.1;
+        holds = one_turned t old allows own _ inv.same.kind i c.turn.result refl refl refl r.0 so.later y.later next.0 next.1 on.1;
       };
     }
 
@@ -84,5 +84,5 @@ returns-clause-turned g c =
       was = r.2.alone;
       is = so.is;
       goes_on = on.0;
-      holds = all_turned t old own c.loop-i.i r.0 so.later r.1 inv.same (omega (arith, c.loop-i-test.false, c.loop-i.auto.i-end, c.len-i-end.ensures, len)) on.0.number r.5 r.3 on.1;
+      holds = all_turned t old own c.loop-i.i r.0 so.later r.1 inv.same (omega (arith, c.loop-i-test.false, c.loop-i.auto.i-end, c.len-i-end.ensures, len)) on.0.number on.0.planting r.5 r.3 on.1;
     }
