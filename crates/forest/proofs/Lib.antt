@@ -61,3 +61,9 @@ mod LastingDeals
 mod LastingSees
 mod LastingTrees
 mod LastingFinished
+mod UpkeepSteps
+mod UpkeepPeriod
+mod UpkeepBook
+mod UpkeepLooks
+mod UpkeepTurn
+mod UpkeepTurns

@@ -41,3 +41,6 @@ pub mod LastingNames
 pub mod LastingRule
 pub mod LastingOpening
 pub mod Ruled
+pub mod UpkeepSteps
+pub mod UpkeepPeriod
+pub mod UpkeepBook

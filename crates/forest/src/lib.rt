@@ -21,6 +21,7 @@ mod steps;
 mod straight;
 mod table_plan;
 mod table_shape;
+mod upkeep;
 mod view;
 mod words;
 

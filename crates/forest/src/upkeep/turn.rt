@@ -1,0 +1,141 @@
+//! What a pass does with its own slots as a period is over.
+ghost use Rattle.std.specs.Prelude.{◌≡◌, ◌<◌, ℕ, List, [], ◌∷◌, length};
+ghost use Rattle.arena.specs.declared.step.Row.{Row};
+ghost use Rattle.slots.specs.Lasting.{IsOwnRecord, IsTaken};
+ghost use Rattle.forest.specs.Seats.{StaysAtTable};
+ghost use Rattle.forest.specs.TableRule.{past_of};
+ghost use Rattle.forest.specs.UpkeepSteps.{RestsOn};
+ghost use Rattle.forest.specs.UpkeepBook.{AreSameSlots, HasEnded, HasFreed, HasTakenBelow, HasTurned, IsAtLasting, IsBook, IsNameIn, IsSlotSo, KnowsNow, WasDying, record_numbered, slots_in};
+ghost use Rattle.forest.specs.declared.view.SeatedPass.{SeatedPass};
+
+use crate::upkeep::book::{Known, OwnSlot, OwnSlots};
+use crate::upkeep::clean::{clean, let_go};
+use crate::upkeep::kind::{RecordKind, RecordName};
+use crate::upkeep::looks::{is_marked, note_dying, note_gone};
+use crate::upkeep::part::word_at;
+use crate::view::SeatView;
+use crate::words::Words;
+use arena::{Layout, Shape};
+use atomic_table::Seat;
+
+/// What is known of each slot once a period is over: what was dying is free, what was found is
+/// dying, and of what is used some is found. It takes up to 20 steps a slot.
+pub(crate) fn turn_all<S: Shape>(
+    words: &Words<S>,
+    layout: &Layout,
+    seat: &mut Seat<u8, SeatView>,
+    own: &mut OwnSlots,
+    next: u64,
+)
+    requires { (p : SeatedPass) × (since : List Row) × IsAtLasting words.now layout.now seat.old p
+        × HasEnded (slots_in words.now) p since × HasTakenBelow p own.old.kind next
+        × IsBook (slots_in words.now) p since own.old }
+    ensures table { StaysAtTable seat.old seat.new }
+    ensures same { AreSameSlots own.old own.new }
+    ensures turned { RestsOn S.allows (HasTurned (slots_in words.now) own.new)
+        seat.old.me.0 seat.new.me.0 }
+{
+    for i in 0..own.slots.len() {
+        let slot = own.first + i as u64;
+        own.slots[i] = turn(words, layout, seat, own.kind, slot, own.slots[i], next);
+    }
+}
+
+/// What is known of a slot once a period is over.
+fn turn<S: Shape>(
+    words: &Words<S>,
+    layout: &Layout,
+    seat: &mut Seat<u8, SeatView>,
+    kind: RecordKind,
+    slot: u64,
+    known: OwnSlot,
+    next: u64,
+) -> OwnSlot
+    requires { (p : SeatedPass) × (since : List Row) × IsAtLasting words.now layout.now seat.old p
+        × IsOwnRecord layout.now p.number.0 (record_numbered kind slot)
+        × HasEnded (slots_in words.now) p since × HasTakenBelow p kind next
+        × IsSlotSo (slots_in words.now) p since kind slot known }
+    ensures table { StaysAtTable seat.old seat.new }
+    ensures turned { RestsOn S.allows (KnowsNow (slots_in words.now) kind slot result)
+        seat.old.me.0 seat.new.me.0 }
+{
+    let name = known.name;
+    match known.known {
+        Known::Used if name < next => OwnSlot {
+            name,
+            known: look_at(words, layout, seat, kind, slot, name),
+        },
+        Known::Found => {
+            let at = layout.place(word_at(kind, slot, 0));
+            note_dying(words, layout, seat, at, RecordName { kind, number: name });
+            OwnSlot {
+                name,
+                known: Known::Dying,
+            }
+        }
+        Known::Dying if name < next => {
+            free(words, layout, seat, kind, slot, name);
+            OwnSlot {
+                name,
+                known: Known::Free,
+            }
+        }
+        _ => known,
+    }
+}
+
+/// Looks whether the record that is in use is marked or dead by now.
+fn look_at<S: Shape>(
+    words: &Words<S>,
+    layout: &Layout,
+    seat: &mut Seat<u8, SeatView>,
+    kind: RecordKind,
+    slot: u64,
+    name: u64,
+) -> Known
+    requires { (p : SeatedPass) × IsAtLasting words.now layout.now seat.old p
+        × IsOwnRecord layout.now p.number.0 (record_numbered kind slot)
+        × IsNameIn (slots_in words.now) p.number.0 p.memory kind slot name
+        × IsTaken (past_of p []) (record_numbered kind name) }
+    ensures table { StaysAtTable seat.old seat.new }
+    ensures looked { RestsOn S.allows
+        (KnowsNow (slots_in words.now) kind slot record { name = name; known = result })
+        seat.old.me.0 seat.new.me.0 }
+{
+    match kind {
+        RecordKind::Node => {
+            if is_marked(words, layout, seat, slot, name) {
+                Known::Found
+            } else {
+                Known::Used
+            }
+        }
+        RecordKind::Scx => Known::Used,
+    }
+}
+
+/// Frees the slot of a record that was dying before a period which is over.
+fn free<S: Shape>(
+    words: &Words<S>,
+    layout: &Layout,
+    seat: &mut Seat<u8, SeatView>,
+    kind: RecordKind,
+    slot: u64,
+    name: u64,
+)
+    requires { (p : SeatedPass) × (since : List Row) × IsAtLasting words.now layout.now seat.old p
+        × IsOwnRecord layout.now p.number.0 (record_numbered kind slot)
+        × HasEnded (slots_in words.now) p since
+        × IsNameIn (slots_in words.now) p.number.0 p.memory kind slot name
+        × WasDying p.planting p.memory since kind name
+        × IsTaken (past_of p []) (record_numbered kind name) }
+    ensures table { StaysAtTable seat.old seat.new }
+    ensures freed { RestsOn S.allows (HasFreed (slots_in words.now) kind slot)
+        seat.old.me.0 seat.new.me.0 }
+{
+    let at = layout.place(word_at(kind, slot, 0));
+    let gone = RecordName { kind, number: name };
+    note_gone(words, layout, seat, at, gone);
+    let_go(words, layout, seat, at, gone);
+    clean(words, layout, seat, kind, slot);
+}
