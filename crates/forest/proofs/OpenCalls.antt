@@ -32,7 +32,7 @@ module _ {K V B : Type 0} (valid_key : K → Type 0) (key : K → ℕ) (valid_va
   module _ (left : Remaining) (blamed : List ℕ) (gives : left ≡ share_of o.run.run) (blames : blamed ≡ blamed_by_reply reply o.blamed) where
     -- the pass that is given back
     abbrev pub back : pass.Inside (Dict K V B)
-    back = record { number = o.number; first_scx = o.first_scx; share = left; seat = o.seat; blamed = blamed; birth = o.birth; room = o.room; shape = record {} }
+    back = record { number = o.number; first_scx = o.first_scx; share = left; seat = o.seat; blamed = blamed; birth = o.birth; room = o.room; kept = o.kept; shape = record {} }
 
     -- what contracts see of it
     back_is : pass_view back ≡ pass_view (behind valid_key key valid_value value_word trie was x.pass o.seat o.run reply)

@@ -1,8 +1,8 @@
 -- A call that is held open stays one, step by step.
 use Rattle.template.specs.Balance.{nodes_by}
-use Rattle.std.proofs.Common.{◌≡◌, ◌∙◌, ◌+◌, ◌<◌, ◌≤◌, ℕ, suc, Bool, true, false, List, refl, sym, subst, arith}
+use Rattle.std.proofs.Common.{◌≡◌, ◌∙◌, ◌+◌, ◌<◌, ◌≤◌, ℕ, suc, Bool, true, false, List, [], ◌∷◌, Option, inr, ap, refl, sym, subst, arith}
 use Rattle.atomic_table.specs.declared.shared.Seat.{Seat}
-use Rattle.histories.specs.Common.{Layout, Step, Turn, Ask, Done, Call, IsRun, MatchTurn}
+use Rattle.histories.specs.Common.{Extends, Kind, Layout, Step, Turn, Ask, Done, Call, IsRun, MatchTurn}
 use Rattle.dict.specs.Calls.{call_in, AsksForPairs}
 use Rattle.dict.specs.DictKnown.{DictWaits, DictAnswers}
 use Rattle.template.specs.Common.{most_steps, Reply}
@@ -18,14 +18,30 @@ use Rattle.forest.specs.OpenInvariant.{IsOpen, next_call}
 use Rattle.forest.specs.Passes.{steps_of}
 use Rattle.forest.specs.StraightCalls.{IsSameDictCall}
 use Rattle.forest.specs.CallSteps.{HasDictLeft}
-use Rattle.forest.specs.TableRule.{history_of}
-use Rattle.forest.specs.Traces.{Stands, seat_steps, shared_nodes, weight, run_at}
+use Rattle.forest.specs.Opened.{IsStepBehind}
+use Rattle.forest.specs.TableRule.{history_of, seated_pass}
+use Rattle.forest.specs.Traces.{Stands, kept_of, known_of, memory_of, planting_of, seat_steps, shared_nodes, weight, run_at}
 use Rattle.forest.proofs.Advances.{weighs}
 use Rattle.forest.proofs.Calls.{course_keeps}
 use Rattle.forest.proofs.DictCalls.{IsSameCall}
+use Rattle.planting.specs.Plantings.{PlantingView}
+use Rattle.forest.specs.UpkeepKept.{KeepsRight}
+use Rattle.forest.specs.declared.memory.PassMemory.{PassMemory}
+use Rattle.forest.specs.declared.upkeep.kept.Kept.{Kept}
+use Rattle.forest.proofs.Meets.{ends_more}
+use Rattle.forest.proofs.UpkeepKept.{keeps_right}
 use Rattle.forest.proofs.Hosts.{own, own_call, own_stands}
 use Rattle.forest.proofs.StepKinds.{waits_asks}
 use Rattle.forest.proofs.StraightCalls.{dict_calls}
+
+-- a step of its call brings a pass further
+pub step_later : (old new : List SeatedPass) (pass number : ℕ) (kind : Kind) → kept_of new ≡ kept_of old → (p : SeatedPass) → old ≡ p ∷ [] → IsStepBehind p.known (known_of new) pass number kind → Extends (run_at new) (run_at old)
+step_later old new pass number kind same p one z = subst (λ (b : PlantingView). Extends (history_of b (known_of new)) (run_at old)) (sym (ap (λ (k : PlantingView × PassMemory). k.0) same))
+    (subst (λ ks. Extends (history_of (planting_of old) ks) (run_at old)) (sym z.is) (rw one (inr (ends_more p.planting z.others p.known))))
+
+-- and what it keeps of its own records is right still
+pub step_keeps : (kept : Option Kept) (n : ℕ) (lay : Layout) (old new : List SeatedPass) → kept_of new ≡ kept_of old → Extends (run_at new) (run_at old) → KeepsRight kept (seated_pass n lay (planting_of old) (memory_of old) (known_of old)) → KeepsRight kept (seated_pass n lay (planting_of new) (memory_of new) (known_of new))
+step_keeps kept n lay old new same later = keeps_right kept (seated_pass n lay (planting_of old) (memory_of old) (known_of old)) (seated_pass n lay (planting_of new) (memory_of new) (known_of new)) refl refl (ap (λ (k : PlantingView × PassMemory). k.0) same) (ap (λ (k : PlantingView × PassMemory). k.1) same) later
 
 pub differ : true ≡ false → ⊥
 differ e = cc

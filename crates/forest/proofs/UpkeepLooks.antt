@@ -11,7 +11,7 @@ use Rattle.slots.specs.Lasting.{IsOwnRecord, IsRecord, Lasting, table_place}
 use Rattle.forest.specs.LastingRule.{LearnsWith, TableLasts}
 use Rattle.forest.specs.LastingSlots.{slot_number}
 use Rattle.forest.specs.Ruled.{IsRuled}
-use Rattle.forest.specs.Seats.{StaysAtTable}
+use Rattle.forest.specs.Seats.{IsSameSeat}
 use Rattle.forest.specs.UpkeepSteps.{HasGoneOnResting, RestsOn}
 use Rattle.forest.specs.UpkeepBook.{IsAtLasting, LearnsOf, Remembers, numbered, parts_of, record_numbered, slots_in}
 use Rattle.forest.specs.declared.memory.PassMemory.{PassMemory}
@@ -22,7 +22,7 @@ use Rattle.forest.specs.declared.upkeep.kind.RecordKind.TheVariants.{Node as Nod
 use Rattle.forest.specs.declared.view.SeatedPass.{SeatedPass}
 use Rattle.forest.specs.declared.view.SeatView.{SeatView}
 use Rattle.forest.specs.declared.words.Words.{Words}
-use Rattle.forest.proofs.Ruled.{table_is}
+use Rattle.forest.proofs.Slotted.{table_is}
 use Rattle.forest.proofs.UpkeepTurn.{from_pass}
 use Rattle.forest.proofs.UpkeepSteps.{passes_of_table, seat_learns, upkeep_allows}
 
@@ -70,7 +70,7 @@ module _ {S : Type 0} (words : Words S) (lay : Layout) where
   passes_in seat p here = let site = words.table.shared.key in subst (λ n. p.number.0 < n) (ap (λ (l : Layout). l.passes) (sym here.table.0.layout) ∙ sym (passes_of_table site)) here.is_pass
 
   -- it still is at the table once it has gone on
-  pub at_later : (allows : Layout → History → ℕ → Type 0) (old new : Seat ℕ SeatView) (p q : SeatedPass) → IsAtLasting words lay old p → StaysAtTable old new → new.me.0.passes ≡ q ∷ [] → HasGoneOnResting allows p q → IsAtLasting words lay new q
+  pub at_later : (allows : Layout → History → ℕ → Type 0) (old new : Seat ℕ SeatView) (p q : SeatedPass) → IsAtLasting words lay old p → IsSameSeat old new → new.me.0.passes ≡ q ∷ [] → HasGoneOnResting allows p q → IsAtLasting words lay new q
   at_later allows old new p q at stays one goes = record {
     table = (at.table.0, stays.0 ∙ at.table.1);
     alone = one;
@@ -79,7 +79,7 @@ module _ {S : Type 0} (words : Words S) (lay : Layout) where
   }
 
   -- so it is of the pass that it is now
-  pub at_now : (allows : Layout → History → ℕ → Type 0) (so : SeatedPass → SeatedPass → Type 0) (old new : Seat ℕ SeatView) (p : SeatedPass) → IsAtLasting words lay old p → StaysAtTable old new → (x : RestsOn allows so old.me.0 new.me.0) → IsAtLasting words lay new x.later
+  pub at_now : (allows : Layout → History → ℕ → Type 0) (so : SeatedPass → SeatedPass → Type 0) (old new : Seat ℕ SeatView) (p : SeatedPass) → IsAtLasting words lay old p → IsSameSeat old new → (x : RestsOn allows so old.me.0 new.me.0) → IsAtLasting words lay new x.later
   at_now allows so old new p at stays x = at_later allows old new p x.later at stays x.is (from_pass allows so old.me.0 new.me.0 p at.alone x).0
 
   -- and what was the pass's own still is

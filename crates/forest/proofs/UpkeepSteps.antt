@@ -17,7 +17,8 @@ use Rattle.forest.specs.declared.rule.Site.{Site}
 use Rattle.forest.specs.declared.rule.Turns.{Turns}
 use Rattle.forest.specs.declared.view.SeatView.{SeatView}
 use Rattle.forest.specs.declared.view.SeatedPass.{SeatedPass}
-use Rattle.forest.proofs.Ruled.{same_pass, table_is}
+use Rattle.forest.proofs.Ruled.{same_pass}
+use Rattle.forest.proofs.Slotted.{table_is}
 
 -- what the rule of a table that lasts allows, that of its table does
 pub lasting_allows : (allows : Layout → History → ℕ → Type 0) (site : Site) (turns : Turns) → site.turns ≡ Some turns → (slots id : ℕ) (me : Me ℕ SeatView) (at : ℕ) (f : ℕ → ℕ) (then : ℕ → Me ℕ SeatView → Type 0) → Allows (TableLasts allows (slots_of_table site) site.planting) slots id me at f then → Allows (IsRuled allows site) slots id me at f then

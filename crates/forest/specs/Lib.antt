@@ -28,6 +28,7 @@ pub mod Lasts
 pub mod Leads
 pub mod InnerSteps
 pub mod JoinedSeats
+pub mod UpkeepKept
 pub mod PassInvariant
 pub mod Dictionary
 pub mod StepKinds

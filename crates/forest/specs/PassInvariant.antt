@@ -1,11 +1,14 @@
 -- What is true of the fields of every pass.
-use Rattle.std.specs.Prelude.{◌≡◌, ◌<◌, ℕ, List, []}
+use Rattle.std.specs.Prelude.{◌≡◌, ◌<◌, ℕ, Bool, true, List, []}
 use Rattle.atomic_table.specs.declared.shared.Seat.{Seat}
 use Rattle.arena.specs.Layout.{IsMap, first_scx}
 use Rattle.arena.specs.Share.{Remaining}
 use Rattle.histories.specs.Common.{Mode, Layout, History, IsRun}
 use Rattle.forest.specs.declared.pass.Pass.TheInside.{Inside}
+use Rattle.forest.specs.declared.view.SeatedPass.{SeatedPass}
 use Rattle.forest.specs.declared.view.SeatView.{SeatView}
+use Rattle.forest.specs.TableRule.{seated_pass}
+use Rattle.forest.specs.UpkeepKept.{KeepsRight}
 use Rattle.forest.specs.Traces.{IsSeated, known_of, layout_at, memory_of, planting_of, run_at}
 use Rattle.forest.specs.Shares.{EndsAsDealt, HasFewNames, IsBetweenCalls}
 use Rattle.forest.specs.Passes.{PassView, HasBlamed}
@@ -36,6 +39,14 @@ pub record IsPassWith (allows : Layout → History → ℕ → Type 0) (mode : M
   -- in a map all that is left of its share is dealt
   pub dealt : IsMap lay.mode → EndsAsDealt left (memory_of at.me.0.passes)
   pub blamed : HasBlamed (view_with lay number left at blames)
+
+-- the pass as its seat knows it
+abbrev pub seated_in : {T : Type 0} → Inside T → SeatedPass
+seated_in p = seated_pass p.number.0 (layout_in p) (planting_of p.seat.me.0.passes) (memory_of p.seat.me.0.passes) (known_of p.seat.me.0.passes)
+
+-- where records come back, what it keeps of them is right
+abbrev pub KeepsItsOwn : (lasts : Bool) {T : Type 0} → Inside T → Type 0
+KeepsItsOwn lasts p = lasts ≡ true → KeepsRight p.kept (seated_in p)
 
 abbrev pub IsPass : (allows : Layout → History → ℕ → Type 0) (mode : Mode) {T : Type 0} → Inside T → Type 0
 IsPass allows mode p = IsPassWith allows mode (layout_in p) p.number.0 p.first_scx.0 p.share p.seat p.blamed

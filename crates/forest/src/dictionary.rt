@@ -20,7 +20,7 @@ use crate::forest::Forest;
 use crate::pass::Pass;
 use crate::straight::hand::Hand;
 use crate::straight::{calls, walk};
-use crate::table_shape::{FilledOnce, Upkeep};
+use crate::table_shape::{FilledOnce, Keeping};
 use arena::{Limits, NoMemory, PassNo, Shape, Share};
 use dict::{Dict, DictRun, Reply, Request, WordKey, WordValue, number_of, value_of};
 use order::leaf_way;
@@ -112,7 +112,7 @@ impl<K: WordKey, V: WordValue, B: FilledOnce> Forest<Dict<K, V, B>> {
     }
 }
 
-impl<K: WordKey, V: WordValue, B: Upkeep> Forest<Dict<K, V, B>> {
+impl<K: WordKey, V: WordValue, B: Keeping> Forest<Dict<K, V, B>> {
     /// Sets a key to a value, and returns the value that the key had just before. It takes at most
     /// three nodes and an SCX-record of the pass's share in a try, and no memory. The pass blames
     /// the SCX-record that `Contended` names. After Brown, Ellen and Ruppert (PPoPP 2014), as are

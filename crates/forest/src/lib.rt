@@ -33,4 +33,4 @@ pub use lasting_laws::{looks_last, names_last, rests_last, seats_last, slots_las
 pub use lasting_sights::{finished_last, sights_last, trees_last};
 pub use open::{OpenCall, Stepped};
 pub use pass::Pass;
-pub use table_shape::{FilledOnce, TableOnce, TableShape, Upkeep};
+pub use table_shape::{FilledOnce, Keeping, TableOnce, TableShape};

@@ -19,7 +19,8 @@ use crate::pass::Pass;
 use crate::room::Room;
 use crate::steps::advance;
 use crate::straight::hand::Hand;
-use crate::table_shape::Upkeep;
+use crate::table_shape::Keeping;
+use crate::upkeep::kept::Kept;
 use crate::view::SeatView;
 use arena::{Kind, Machine, PassNo, ScxNo, Turn};
 use atomic_table::Seat;
@@ -42,7 +43,7 @@ pub enum Stepped {
 /// A call that has begun, with its pass: `step` makes one atomic step, and `finish`, once a step
 /// has returned `Done`, gives pass and reply.
 #[derive(Drop)]
-pub struct OpenCall<K: WordKey, V: WordValue, B: Upkeep = ByOrder> {
+pub struct OpenCall<K: WordKey, V: WordValue, B: Keeping = ByOrder> {
     number: PassNo,
     /// The first SCX-record of the pass's share.
     first_scx: ScxNo,
@@ -51,6 +52,7 @@ pub struct OpenCall<K: WordKey, V: WordValue, B: Upkeep = ByOrder> {
     /// The pass's seat as it was made, for proofs alone.
     birth: Snapshot<Seat<u8, SeatView>>,
     room: Room,
+    kept: Option<Kept>,
     /// Which of the pass's calls it is.
     call: u64,
     run: DictRun<K, V>,
@@ -60,19 +62,20 @@ pub struct OpenCall<K: WordKey, V: WordValue, B: Upkeep = ByOrder> {
     began: Snapshot<Pass<Dict<K, V, B>>>,
 }
 
-impl<K: WordKey, V: WordValue, B: Upkeep> Model for OpenCall<K, V, B> {
+impl<K: WordKey, V: WordValue, B: Keeping> Model for OpenCall<K, V, B> {
     ghost use Rattle.forest.specs.Opened.{OpenView};
 
     ghost Value = { OpenView };
 
-    ghost use Rattle.forest.specs.OpenInvariant.{open_view, IsOpen};
+    ghost use Rattle.forest.specs.OpenInvariant.{open_view, IsOpen, KeepsItsOwn};
 
     ghost view = { open_view };
 
-    ghost invariant = { IsOpen K.is_valid K.word_of V.is_valid V.word_of (B.trie B.the) };
+    ghost invariant = { λ o. IsOpen K.is_valid K.word_of V.is_valid V.word_of (B.trie B.the) o
+        × KeepsItsOwn B.lasts o };
 }
 
-impl<K: WordKey, V: WordValue, B: Upkeep> Forest<Dict<K, V, B>> {
+impl<K: WordKey, V: WordValue, B: Keeping> Forest<Dict<K, V, B>> {
     /// Begins a call with this pass, which it keeps until it is finished. It has made no step yet.
     pub fn open(
         &self,
@@ -100,6 +103,7 @@ impl<K: WordKey, V: WordValue, B: Upkeep> Forest<Dict<K, V, B>> {
             blamed,
             birth,
             room,
+            kept,
             shape: _,
         } = pass;
         let mut run = DictRun::new(
@@ -118,6 +122,7 @@ impl<K: WordKey, V: WordValue, B: Upkeep> Forest<Dict<K, V, B>> {
             blamed,
             birth,
             room,
+            kept,
             call,
             run,
             turn,
@@ -127,7 +132,7 @@ impl<K: WordKey, V: WordValue, B: Upkeep> Forest<Dict<K, V, B>> {
     }
 }
 
-impl<K: WordKey, V: WordValue, B: Upkeep> OpenCall<K, V, B> {
+impl<K: WordKey, V: WordValue, B: Keeping> OpenCall<K, V, B> {
     /// Makes the next atomic step of the call, which is of this forest.
     pub fn step(&mut self, forest: &Forest<Dict<K, V, B>>) -> Stepped
         requires forest { IsOf forest.now self.old.began }
@@ -181,6 +186,7 @@ impl<K: WordKey, V: WordValue, B: Upkeep> OpenCall<K, V, B> {
             mut blamed,
             birth,
             room,
+            kept,
             call: _,
             run,
             turn,
@@ -200,13 +206,14 @@ impl<K: WordKey, V: WordValue, B: Upkeep> OpenCall<K, V, B> {
             blamed,
             birth,
             room,
+            kept,
             shape: PhantomData,
         };
         (pass, reply)
     }
 }
 
-impl<K: WordKey, V: WordValue, B: Upkeep> fmt::Debug for OpenCall<K, V, B> {
+impl<K: WordKey, V: WordValue, B: Keeping> fmt::Debug for OpenCall<K, V, B> {
     fn fmt<W: fmt::Write>(&self, f: &mut fmt::Formatter<W>) -> fmt::Result {
         f.debug_struct("OpenCall")
             .field("pass", &self.number.0)

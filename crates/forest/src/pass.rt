@@ -11,8 +11,10 @@ ghost use Rattle.forest.specs.Shares.{HasFewNames};
 
 use crate::blamed::Blamed;
 use crate::room::Room;
+use crate::table_shape::{TableOnce, TableShape};
+use crate::upkeep::kept::Kept;
 use crate::view::SeatView;
-use arena::{Layout, PassNo, ScxNo, Shape, Share};
+use arena::{Layout, PassNo, ScxNo, Share};
 use atomic_table::Seat;
 use std::alloc::Global;
 use std::fmt;
@@ -23,7 +25,7 @@ use std::snapshot::Snapshot;
 /// its calls have blamed, and lists that its ordered reads fill. A thread has one, and gives it to
 /// each call.
 #[derive(Drop)]
-pub struct Pass<S: Shape> {
+pub struct Pass<S: TableShape> {
     pub(crate) number: PassNo,
     pub(crate) first_scx: ScxNo,
     pub(crate) share: Share,
@@ -33,22 +35,24 @@ pub struct Pass<S: Shape> {
     /// kept.
     pub(crate) birth: Snapshot<Seat<u8, SeatView>>,
     pub(crate) room: Room,
+    /// Where records come back: what it keeps of its own.
+    pub(crate) kept: Option<Kept>,
     pub(crate) shape: PhantomData<S>,
 }
 
-impl<S: Shape> Model for Pass<S> {
+impl<S: TableShape> Model for Pass<S> {
     ghost use Rattle.forest.specs.Passes.{PassView, taken_of};
 
     ghost Value = { PassView };
 
-    ghost use Rattle.forest.specs.PassInvariant.{pass_view, IsPass};
+    ghost use Rattle.forest.specs.PassInvariant.{pass_view, IsPass, KeepsItsOwn};
 
     ghost view = { pass_view };
 
-    ghost invariant = { IsPass S.allows S.mode };
+    ghost invariant = { λ p. IsPass S.allows S.mode p × KeepsItsOwn S.lasts p };
 }
 
-impl<S: Shape> Pass<S> {
+impl<S: TableOnce> Pass<S> {
     /// A pass that has made no step, at a seat of its own. Its lists are empty, and grow with this
     /// allocator.
     pub(crate) fn new(
@@ -85,10 +89,13 @@ impl<S: Shape> Pass<S> {
             blamed: Blamed::new(),
             birth,
             room: Room::new(alloc),
+            kept: None,
             shape: PhantomData,
         }
     }
+}
 
+impl<S: TableShape> Pass<S> {
     /// Which of the forest's passes it is.
     pub fn number(&self) -> PassNo
         ensures is { result.0 ≡ self.now.number }
@@ -113,7 +120,7 @@ impl<S: Shape> Pass<S> {
     }
 }
 
-impl<S: Shape> fmt::Debug for Pass<S> {
+impl<S: TableShape> fmt::Debug for Pass<S> {
     fn fmt<W: fmt::Write>(&self, f: &mut fmt::Formatter<W>) -> fmt::Result {
         let (nodes, scx) = self.left();
         f.debug_struct("Pass")

@@ -3,7 +3,7 @@
 ghost use Rattle.std.specs.Prelude.{◌≡◌, ◌+◌, ◌<◌, ◌≤◌, ℕ, [], ◌∷◌};
 ghost use Rattle.prims.specs.Moments.{AreFinished};
 ghost use Rattle.slots.specs.Counts.{rests_place};
-ghost use Rattle.forest.specs.Seats.{StaysAtTable};
+ghost use Rattle.forest.specs.Seats.{IsSameSeat};
 ghost use Rattle.forest.specs.TableRule.{past_of};
 ghost use Rattle.forest.specs.UpkeepSteps.{IsLastingSeat, RemembersLeaving, RemembersRest, RestsOn};
 ghost use Rattle.forest.specs.declared.view.SeatedPass.{SeatedPass};
@@ -17,6 +17,8 @@ use std::marker::Brand;
 
 pub(crate) mod book;
 pub(crate) mod clean;
+pub(crate) mod keeper;
+pub(crate) mod kept;
 pub(crate) mod kind;
 pub(crate) mod looks;
 pub(crate) mod part;
@@ -50,7 +52,7 @@ pub(crate) fn rest<S: Shape>(
         × AreFinished p.layout p.number.0 0 (past_of p []) }
     requires inside { number.0 < layout.now.passes }
     requires few { often < MOST_RESTS }
-    ensures table { StaysAtTable seat.old seat.new }
+    ensures table { IsSameSeat seat.old seat.new }
     ensures often { result ≡ often + 1 }
     ensures rests { RestsOn S.allows RemembersRest seat.old.me.0 seat.new.me.0 }
 {
@@ -75,7 +77,7 @@ pub(crate) fn leave<S: Shape>(
         × AreFinished p.layout p.number.0 0 (past_of p []) }
     requires inside { number.0 < layout.now.passes }
     requires few { often ≤ MOST_RESTS }
-    ensures table { StaysAtTable seat.old seat.new }
+    ensures table { IsSameSeat seat.old seat.new }
     ensures leaves { RestsOn S.allows RemembersLeaving seat.old.me.0 seat.new.me.0 }
 {
     rests_last::<S>();

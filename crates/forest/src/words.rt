@@ -103,7 +103,7 @@ impl<S: Shape> Words<S> {
         requires may { Allows (IsRuled S.allows self.now.table.shared.key)
             self.now.table.shared.table_id.slots seat.old.id seat.old.me at (λ n. n)
             (λ n w. J.learns seat.old.me.0 n w.0 × (w.1 ≡ seat.old.me.1)) }
-        ensures table { StaysAtTable seat.old seat.new }
+        ensures table { IsSameSeat seat.old seat.new }
         ensures learnt { J.learns seat.old.me.0 result seat.new.me.0 }
     {
         self.table.shared.load::<Teaches<J>>(seat, at)
@@ -124,7 +124,7 @@ impl<S: Shape> Words<S> {
         requires may { Allows (IsRuled S.allows self.now.table.shared.key)
             self.now.table.shared.table_id.slots seat.old.id seat.old.me at (λ n. new)
             (λ n w. J.learns seat.old.me.0 new w.0 × (w.1 ≡ seat.old.me.1)) }
-        ensures table { StaysAtTable seat.old seat.new }
+        ensures table { IsSameSeat seat.old seat.new }
         ensures learnt { J.learns seat.old.me.0 new seat.new.me.0 }
     {
         self.table.shared.store::<Teaches<J>>(seat, at, new);

@@ -7,7 +7,7 @@ ghost use Rattle.resting.specs.Records.{record_of};
 ghost use Rattle.slots.specs.Lasting.{IsOwnRecord, IsTaken};
 ghost use Rattle.forest.specs.LastingNotes.{IsAmongThese, noted_as};
 ghost use Rattle.forest.specs.LastingSlots.{memory_let_go, memory_cleared};
-ghost use Rattle.forest.specs.Seats.{StaysAtTable};
+ghost use Rattle.forest.specs.Seats.{IsSameSeat};
 ghost use Rattle.forest.specs.TableRule.{past_of};
 ghost use Rattle.forest.specs.UpkeepSteps.{RestsOn};
 ghost use Rattle.forest.specs.UpkeepBook.{HasFreed, IsAtLasting, Remembers, numbered, parts_of, record_numbered, slots_in};
@@ -36,7 +36,7 @@ pub(crate) fn let_go<S: Shape>(
         × IsAmongThese (numbered name.kind name.number) p.memory.holds
         × IsAmongThese (noted_as (numbered name.kind name.number) NoteView.OutOfReach) p.memory.notes
         × IsTaken (past_of p []) (record_numbered name.kind name.number) }
-    ensures table { StaysAtTable seat.old seat.new }
+    ensures table { IsSameSeat seat.old seat.new }
     ensures looked { RestsOn S.allows
         (Remembers (λ m rows. memory_let_go (slots_in words.now) m (numbered name.kind name.number)))
         seat.old.me.0 seat.new.me.0 }
@@ -58,7 +58,7 @@ fn clear<S: Shape>(
     requires empty { (p : SeatedPass) × IsAtLasting words.now layout.now seat.old p
         × IsOwnRecord layout.now p.number.0 (record_numbered kind slot)
         × IsAmongThese (numbered kind slot) p.memory.empty }
-    ensures table { StaysAtTable seat.old seat.new }
+    ensures table { IsSameSeat seat.old seat.new }
     ensures cleared { (word : Word)
         × RestsOn S.allows (Remembers (λ m rows. memory_cleared m word)) seat.old.me.0 seat.new.me.0
         × (record_of word ≡ record_numbered kind slot)
@@ -82,7 +82,7 @@ pub(crate) fn clean<S: Shape>(
     requires { (p : SeatedPass) × IsAtLasting words.now layout.now seat.old p
         × IsOwnRecord layout.now p.number.0 (record_numbered kind slot)
         × IsAmongThese (numbered kind slot) p.memory.empty }
-    ensures table { StaysAtTable seat.old seat.new }
+    ensures table { IsSameSeat seat.old seat.new }
     ensures cleaned { RestsOn S.allows (HasFreed (slots_in words.now) kind slot)
         seat.old.me.0 seat.new.me.0 }
 {

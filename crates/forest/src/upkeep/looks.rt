@@ -3,7 +3,7 @@ ghost use Rattle.std.specs.Prelude.{◌≡◌, ◌<◌, ℕ, if◌then◌else◌
 ghost use Rattle.slots.specs.Lasting.{IsOwnRecord, IsTaken};
 ghost use Rattle.arena.specs.Layout.{table_size};
 ghost use Rattle.arena.specs.declared.step.Row.{Row};
-ghost use Rattle.forest.specs.Seats.{StaysAtTable};
+ghost use Rattle.forest.specs.Seats.{IsSameSeat};
 ghost use Rattle.forest.specs.TableRule.{past_of};
 ghost use Rattle.forest.specs.UpkeepSteps.{RestsOn};
 ghost use Rattle.forest.specs.UpkeepBook.{HasEnded, IsAtLasting, IsNameIn, Remembers, WasFound, WasDying, memory_with_note, numbered, record_numbered, slots_in};
@@ -32,7 +32,7 @@ pub(crate) fn is_marked<S: Shape>(
         × IsOwnRecord layout.now p.number.0 (record_numbered RecordKind.Node slot)
         × IsNameIn (slots_in words.now) p.number.0 p.memory RecordKind.Node slot name
         × IsTaken (past_of p []) (record_numbered RecordKind.Node name) }
-    ensures table { StaysAtTable seat.old seat.new }
+    ensures table { IsSameSeat seat.old seat.new }
     ensures looked { RestsOn S.allows (Remembers
         (λ m rows. if result
         then memory_with_note m (numbered RecordKind.Node name) (NoteView.MarkedOrDead rows)
@@ -55,7 +55,7 @@ pub(crate) fn note_dying<S: Shape>(
     requires { (p : SeatedPass) × (since : List Row) × IsAtLasting words.now layout.now seat.old p
         × (at < table_size layout.now) × HasEnded (slots_in words.now) p since
         × WasFound p.planting p.memory since name.kind name.number }
-    ensures table { StaysAtTable seat.old seat.new }
+    ensures table { IsSameSeat seat.old seat.new }
     ensures looked { RestsOn S.allows
         (Remembers (λ m rows. memory_with_note m (numbered name.kind name.number) (NoteView.DeadBy rows)))
         seat.old.me.0 seat.new.me.0 }
@@ -75,7 +75,7 @@ pub(crate) fn note_gone<S: Shape>(
     requires { (p : SeatedPass) × (since : List Row) × IsAtLasting words.now layout.now seat.old p
         × (at < table_size layout.now) × HasEnded (slots_in words.now) p since
         × WasDying p.planting p.memory since name.kind name.number }
-    ensures table { StaysAtTable seat.old seat.new }
+    ensures table { IsSameSeat seat.old seat.new }
     ensures looked { RestsOn S.allows
         (Remembers (λ m rows. memory_with_note m (numbered name.kind name.number) NoteView.OutOfReach))
         seat.old.me.0 seat.new.me.0 }

@@ -3,7 +3,7 @@ ghost use Rattle.std.specs.Prelude.{◌≡◌, ◌+◌, ◌<◌, ◌*◌, ◌==�
 ghost use Rattle.arena.specs.declared.step.Row.{Row};
 ghost use Rattle.arena.specs.History.{Extends};
 ghost use Rattle.forest.specs.LastingNotes.{HasSeenAllRest, waits_of};
-ghost use Rattle.forest.specs.Seats.{StaysAtTable};
+ghost use Rattle.forest.specs.Seats.{IsSameSeat};
 ghost use Rattle.forest.specs.Slotted.{names_of_table};
 ghost use Rattle.forest.specs.TableRule.{history_of};
 ghost use Rattle.forest.specs.UpkeepSteps.{IsLastingSeat, RestsOn};
@@ -44,7 +44,7 @@ fn look<S: Shape>(
     requires table { IsLastingSeat words.now layout.now seat.old }
     requires one { (p : SeatedPass) × (seat.old.me.0.passes ≡ p ∷ []) }
     requires inside { other.0 < layout.now.passes }
-    ensures table { StaysAtTable seat.old seat.new }
+    ensures table { IsSameSeat seat.old seat.new }
     ensures looked { RestsOn S.allows (HasLookedFirst other.0 result)
         seat.old.me.0 seat.new.me.0 }
 {
@@ -66,7 +66,7 @@ fn look_again<S: Shape>(
         × (moment : List Row) × (last_poll other.0 p.memory.polls
         ≡ Some (poll_of other.0 moment (Some seen))) }
     requires inside { other.0 < layout.now.passes }
-    ensures table { StaysAtTable seat.old seat.new }
+    ensures table { IsSameSeat seat.old seat.new }
     ensures looked { RestsOn S.allows (HasLookedAgain other.0 seen result)
         seat.old.me.0 seat.new.me.0 }
 {
@@ -96,7 +96,7 @@ impl Period {
     ) -> Period
         requires table { IsLastingSeat words.now layout.now seat.old }
         requires one { (p : SeatedPass) × (seat.old.me.0.passes ≡ p ∷ []) × (p.number ≡ number) }
-        ensures table { StaysAtTable seat.old seat.new }
+        ensures table { IsSameSeat seat.old seat.new }
         ensures begins { RestsOn S.allows (BeginsPeriod layout.now.passes result)
             seat.old.me.0 seat.new.me.0 }
     {
@@ -119,7 +119,7 @@ impl Period {
         requires table { IsLastingSeat words.now layout.now seat.old }
         requires one { (p : SeatedPass) × (seat.old.me.0.passes ≡ p ∷ []) × (p.number ≡ number) }
         requires inside { next.0 < layout.now.passes }
-        ensures table { StaysAtTable seat.old seat.new }
+        ensures table { IsSameSeat seat.old seat.new }
         ensures polls { RestsOn S.allows (PollsOn next.0 (next.0 + 1) self.old self.new)
             seat.old.me.0 seat.new.me.0 }
     {
@@ -140,7 +140,7 @@ impl Period {
         requires table { IsLastingSeat words.now layout.now seat.old }
         requires period { (p : SeatedPass) × (seat.old.me.0.passes ≡ p ∷ [])
             × (rows : List Row) × HasPeriod layout.now.passes p rows self.old }
-        ensures table { StaysAtTable seat.old seat.new }
+        ensures table { IsSameSeat seat.old seat.new }
         ensures polls { RestsOn S.allows
             (PollsOn layout.now.passes layout.now.passes self.old self.new)
             seat.old.me.0 seat.new.me.0 }
@@ -167,7 +167,7 @@ impl Period {
         requires period { (p : SeatedPass) × (seat.old.me.0.passes ≡ p ∷ [])
             × (rows : List Row) × HasPeriod layout.now.passes p rows self.old }
         requires inside { other.0 < layout.now.passes }
-        ensures table { StaysAtTable seat.old seat.new }
+        ensures table { IsSameSeat seat.old seat.new }
         ensures polls { RestsOn S.allows
             (PollsOn layout.now.passes layout.now.passes self.old self.new)
             seat.old.me.0 seat.new.me.0 }

@@ -2,7 +2,7 @@
 ghost use Rattle.std.specs.Prelude.{◌≡◌, ◌<◌, ℕ, List, [], ◌∷◌, length};
 ghost use Rattle.arena.specs.declared.step.Row.{Row};
 ghost use Rattle.slots.specs.Lasting.{IsOwnRecord, IsTaken};
-ghost use Rattle.forest.specs.Seats.{StaysAtTable};
+ghost use Rattle.forest.specs.Seats.{IsSameSeat};
 ghost use Rattle.forest.specs.TableRule.{past_of};
 ghost use Rattle.forest.specs.UpkeepSteps.{RestsOn};
 ghost use Rattle.forest.specs.UpkeepBook.{AreSameSlots, HasEnded, HasFreed, HasTakenBelow, HasTurned, IsAtLasting, IsBook, IsNameIn, IsSlotSo, KnowsNow, WasDying, record_numbered, slots_in};
@@ -30,7 +30,7 @@ pub(crate) fn turn_all<S: Shape>(
     requires { (p : SeatedPass) × (since : List Row) × IsAtLasting words.now layout.now seat.old p
         × HasEnded (slots_in words.now) p since × HasTakenBelow p own.old.kind next
         × IsBook (slots_in words.now) p since own.old }
-    ensures table { StaysAtTable seat.old seat.new }
+    ensures table { IsSameSeat seat.old seat.new }
     ensures same { AreSameSlots own.old own.new }
     ensures turned { RestsOn S.allows (HasTurned (slots_in words.now) own.new)
         seat.old.me.0 seat.new.me.0 }
@@ -55,7 +55,7 @@ fn turn<S: Shape>(
         × IsOwnRecord layout.now p.number.0 (record_numbered kind slot)
         × HasEnded (slots_in words.now) p since × HasTakenBelow p kind next
         × IsSlotSo (slots_in words.now) p since kind slot known }
-    ensures table { StaysAtTable seat.old seat.new }
+    ensures table { IsSameSeat seat.old seat.new }
     ensures turned { RestsOn S.allows (KnowsNow (slots_in words.now) kind slot result)
         seat.old.me.0 seat.new.me.0 }
 {
@@ -97,7 +97,7 @@ fn look_at<S: Shape>(
         × IsOwnRecord layout.now p.number.0 (record_numbered kind slot)
         × IsNameIn (slots_in words.now) p.number.0 p.memory kind slot name
         × IsTaken (past_of p []) (record_numbered kind name) }
-    ensures table { StaysAtTable seat.old seat.new }
+    ensures table { IsSameSeat seat.old seat.new }
     ensures looked { RestsOn S.allows
         (KnowsNow (slots_in words.now) kind slot record { name = name; known = result })
         seat.old.me.0 seat.new.me.0 }
@@ -129,7 +129,7 @@ fn free<S: Shape>(
         × IsNameIn (slots_in words.now) p.number.0 p.memory kind slot name
         × WasDying p.planting p.memory since kind name
         × IsTaken (past_of p []) (record_numbered kind name) }
-    ensures table { StaysAtTable seat.old seat.new }
+    ensures table { IsSameSeat seat.old seat.new }
     ensures freed { RestsOn S.allows (HasFreed (slots_in words.now) kind slot)
         seat.old.me.0 seat.new.me.0 }
 {

@@ -11,5 +11,5 @@ returns-clause-closed g c =
     let words : Contents = record { layout = c.self.inside.plan.layout; words = c.close.result.words.items } in
     let table = c.self.invariant.0 in
     subst (λ (f : Ground). IsClosed g.S.Shape.allows f.layout c.args.passes.items words) c.self.view_is
-    (closes_site c.self.inside.words.table.shared.table_id c.self.inside.words.table.shared.key c.self.inside.plan.layout table.layout (once_by table g.S.TableOnce.once) c.args.passes.items c.in-Some.seat.id c.in-Some.seat.me.0 c.close.result.words.items c.close.result.slots.items
+    (closes_site c.self.inside.words.table.shared.table_id c.self.inside.words.table.shared.key c.self.inside.plan.layout table.layout (once_by table g.met.S.TableOnce.once) c.args.passes.items c.in-Some.seat.id c.in-Some.seat.me.0 c.close.result.words.items c.close.result.slots.items
     (subst (λ (f : Ground). All (IsOf f) c.args.passes.items) (sym c.self.view_is) c.requires.passes) c.in-Some.ensures.all c.close.ensures.values.2)

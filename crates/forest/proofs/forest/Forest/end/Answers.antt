@@ -18,4 +18,4 @@ returns-clause-closed g c =
     let in_it : AreIn g.S.Shape.allows one seat.me.0.passes = subst (λ l. AreIn g.S.Shape.allows one l) (sym k.1) ((k.0, inl refl, k.2), tt) in
     let table = c.self.invariant.0 in
     subst (λ (f : Ground). IsClosed g.S.Shape.allows f.layout one words) c.self.view_is
-    (closes_site c.self.inside.words.table.shared.table_id c.self.inside.words.table.shared.key c.self.inside.plan.layout table.layout (once_by table g.S.TableOnce.once) one seat.id seat.me.0 c.close.result.words.items c.close.result.slots.items of_it in_it c.close.ensures.values.2)
+    (closes_site c.self.inside.words.table.shared.table_id c.self.inside.words.table.shared.key c.self.inside.plan.layout table.layout (once_by table g.met.S.TableOnce.once) one seat.id seat.me.0 c.close.result.words.items c.close.result.slots.items of_it in_it c.close.ensures.values.2)
