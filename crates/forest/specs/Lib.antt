@@ -45,3 +45,4 @@ pub mod Ruled
 pub mod UpkeepSteps
 pub mod UpkeepPeriod
 pub mod UpkeepBook
+pub mod UpkeepKeeper
