@@ -35,6 +35,7 @@ mod StraightGuard
 mod StraightTries
 mod Took
 mod Versions
+mod UpkeepKeeper
 mod UpkeepKept
 mod DictCalls
 mod AloneCalls

@@ -1,5 +1,5 @@
 -- What a pass keeps stays right while it makes calls.
-use Rattle.std.proofs.Common.{◌≡◌, ◌∙◌, Bool, true, false, Option, Some, None, sym}
+use Rattle.std.proofs.Common.{◌≡◌, ◌∙◌, Bool, true, false, List, [], Option, Some, None, refl, sym}
 use Rattle.histories.specs.Common.{Extends}
 use Rattle.forest.specs.Slotted.{in_turns}
 use Rattle.forest.specs.TableRule.{past_of}
