@@ -14,4 +14,4 @@ never_kept lasts once e = absurd (let y : false ≡ true = sym once ∙ e in cc)
 
 pub keeps_right : (kept : Option Kept) (p q : SeatedPass) → q.number ≡ p.number → q.layout ≡ p.layout → q.planting ≡ p.planting → q.memory ≡ p.memory → Extends (past_of q []) (past_of p []) → KeepsRight kept p → KeepsRight kept q
 keeps_right None p q number layout planting memory later x = tt
-keeps_right (Some k) p q number layout planting memory later x = keeper_stays (in_turns k.layout k.turns) p q k.keeper number layout planting memory later x
+keeps_right (Some k) p q number layout planting memory later x = keeper_stays (in_turns k.layout k.turns) p q number layout planting memory later k.keeper x

@@ -41,6 +41,7 @@ pub mod LastingSlots
 pub mod LastingNames
 pub mod LastingRule
 pub mod LastingOpening
+pub mod LastingTables
 pub mod Ruled
 pub mod UpkeepSteps
 pub mod UpkeepPeriod
