@@ -1,13 +1,15 @@
 -- Where words are in a table: where each record has a place of its own, where the layout says; and
 -- where records come back, where the low bits of its name say.
 use Rattle.std.proofs.Common.{◌≡◌, ◌<◌, ◌+◌, ◌%◌, ◌*◌, ◌^◌, ◌∙◌, ℕ, Bool, true, false, Option, Some, None, ap, arith, bit_and, refl, sym}
-use Rattle.std.proofs.Math.Nat.{mod-eq_of_lt, mul-zero, zero-mod}
+use Rattle.std.proofs.Math.Nat.{lt_of_lt_of_le, mod-eq_of_lt, mod-lt, mul-zero, one-le-pow, zero-mod}
+use Rattle.std.proofs.Math.Pow.{pow_mono}
 use Rattle.std.proofs.lemmas.Nat.{and_mask}
 use Rattle.atomic_table.specs.Seated.{TableId}
 use Rattle.arena.specs.Layout.{scx_start}
 use Rattle.arena.specs.Opening.{node_size}
 use Rattle.arena.specs.Words.{IsPart, offset}
 use Rattle.arena.specs.declared.word.ScxWord.TheVariants.{State}
+use Rattle.arena.specs.declared.limits.Mode.TheVariants.{Tree, Trie, Records}
 use Rattle.histories.specs.Common.{Layout, Mode, NodeNo, ScxNo, Word, Node, Scx, Settled, Head, IsWord, all_nodes, all_scx, node, scx}
 use Rattle.slots.specs.Lasting.{Lasting, slot_word, table_place}
 use Rattle.forest.specs.Slotted.{in_place, names_of_table, node_begins, scx_begins, slots_by, slots_of_table, word_begins}
@@ -40,15 +42,26 @@ passes_are site = passes_by site.layout site.turns
 -- the slot of a node, and of an SCX-record: where records come back, the low bits of its name say
 node_by : (lasts : Bool) (lay : Layout) (t : Option Turns) (plan : TablePlan) → HasMasks lasts t plan → (n : ℕ) → n < all_nodes (slots_by lay t).lay → (lasts ≡ true → bit_and n plan.node_mask ≡ n % (slots_by lay t).node_turn) × (lasts ≡ false → n ≡ n % (slots_by lay t).node_turn)
 node_by false lay None plan e n less = (λ q. cc, λ q. sym (mod-eq_of_lt less))
-node_by true lay (Some t) plan masks n less = (λ q. ap (bit_and n) masks.0 ∙ and_mask n t.node_bits, λ q. cc)
+node_by true lay (Some t) plan masks n less = (λ q. ap (bit_and n) masks.1 ∙ and_mask n t.node_bits, λ q. cc)
 node_by false lay (Some t) plan e n less = absurd (let y : Some t ≡ None = e in cc)
 node_by true lay None plan masks n less = absurd masks
 
 scx_by : (lasts : Bool) (lay : Layout) (t : Option Turns) (plan : TablePlan) → HasMasks lasts t plan → (s : ℕ) → s < all_scx (slots_by lay t).lay → (lasts ≡ true → bit_and s plan.scx_mask ≡ s % (slots_by lay t).scx_turn) × (lasts ≡ false → s ≡ s % (slots_by lay t).scx_turn)
 scx_by false lay None plan e s less = (λ q. cc, λ q. sym (mod-eq_of_lt less))
-scx_by true lay (Some t) plan masks s less = (λ q. ap (bit_and s) masks.1 ∙ and_mask s t.scx_bits, λ q. cc)
+scx_by true lay (Some t) plan masks s less = (λ q. ap (bit_and s) masks.2 ∙ and_mask s t.scx_bits, λ q. cc)
 scx_by false lay (Some t) plan e s less = absurd (let y : Some t ≡ None = e in cc)
 scx_by true lay None plan masks s less = absurd masks
+
+-- where the records come back nodes begin low, so that 32 bits say where
+low_size : (mode : Mode) (k : ℕ) → k < 2 ^ 26 → node_size mode * k < 4294967296
+low_size Tree k less = omega (arith, less)
+low_size Trie k less = omega (arith, less)
+low_size Records k less = omega (arith, less)
+
+low_by : (lasts : Bool) (lay : Layout) (t : Option Turns) (plan : TablePlan) → HasMasks lasts t plan → (n : NodeNo) → lasts ≡ true → node_begins (slots_by lay t) n < 4294967296
+low_by true lay (Some t) plan masks n e = low_size lay.mode (n.0 % 2 ^ t.node_bits) (lt_of_lt_of_le (mod-lt n.0 (one-le-pow t.node_bits 2 (omega arith))) (pow_mono masks.0))
+low_by true lay None plan masks n e = absurd masks
+low_by false lay t plan masks n e = cc
 
 -- so it is of a table
 module _ {mode : Mode} {lasts : Bool} {id : TableId} {site : Site} {plan : TablePlan} (x : IsTableOf mode lasts id site plan) where
@@ -62,6 +75,9 @@ module _ {mode : Mode} {lasts : Bool} {id : TableId} {site : Site} {plan : Table
 
     pub node_unmasked : lasts ≡ false → n.0 ≡ n.0 % (slots_of_table site).node_turn
     node_unmasked = (node_by lasts site.layout site.turns plan x.masks n.0 less).1
+
+    pub node_begins_soon : lasts ≡ true → node_begins (slots_of_table site) n < 4294967296
+    node_begins_soon = low_by lasts site.layout site.turns plan x.masks n
 
     pub node_begins_at : (size slot : ℕ) → size ≡ node_size plan.layout.mode → slot ≡ n.0 % (slots_of_table site).node_turn → size * slot ≡ node_begins (slots_of_table site) n
     node_begins_at size slot sized is = rw (sized, is, table_laid) refl

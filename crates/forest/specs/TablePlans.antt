@@ -1,5 +1,5 @@
 -- Where the words of a table are, as the code that makes steps on them knows it.
-use Rattle.std.specs.Prelude.{◌≡◌, ◌<◌, ◌-◌, ◌^◌, ℕ, Bool, true, false, Option, Some, None}
+use Rattle.std.specs.Prelude.{◌≡◌, ◌<◌, ◌≤◌, ◌-◌, ◌^◌, ℕ, Bool, true, false, Option, Some, None}
 use Rattle.atomic_table.specs.Seated.{TableId}
 use Rattle.histories.specs.Common.{Layout, Mode, Word, IsWord, table_size}
 use Rattle.slots.specs.Lasting.{table_place}
@@ -12,7 +12,7 @@ use Rattle.forest.specs.declared.table_plan.TablePlan.{TablePlan}
 abbrev pub HasMasks : Bool → Option Turns → TablePlan → Type 0
 HasMasks false turns plan = turns ≡ None
 HasMasks true None plan = ⊥
-HasMasks true (Some t) plan = (plan.node_mask ≡ 2 ^ t.node_bits - 1) × (plan.scx_mask ≡ 2 ^ t.scx_bits - 1)
+HasMasks true (Some t) plan = (t.node_bits ≤ 26) × (plan.node_mask ≡ 2 ^ t.node_bits - 1) × (plan.scx_mask ≡ 2 ^ t.scx_bits - 1)
 
 -- The words of the table lie as the plan says, and there is room for each word of each name; its
 -- records come back if it is said to last.

@@ -41,14 +41,14 @@ impl<'a, S: TableShape> Hand<'a, S> {
         requires table { IsHandOf S.mode S.lasts self }
         requires node { node.0 < all_nodes (names self) }
         ensures start { result ≡ node_begins (hand_slots self.entry) node }
-        ensures fits { result < 1099511627776 }
+        ensures fits { result < 4294967296 }
     {
-        let slot = if S::lasts() {
-            node.0 & self.plan.node_mask
+        if S::lasts() {
+            let slot = node.0 & self.plan.node_mask;
+            self.size * slot as usize
         } else {
-            node.0
-        };
-        self.size * slot as usize
+            self.plan.layout.node_start(self.size, node)
+        }
     }
 
     /// Where the words of an SCX-record begin: in the slot that its name says.

@@ -3,7 +3,7 @@ ghost use Rattle.std.specs.Prelude.{◌≡◌, ◌<◌, ◌+◌, suc};
 ghost use Rattle.arena.specs.Heads.{head_of};
 ghost use Rattle.arena.specs.Layout.{all_nodes};
 ghost use Rattle.forest.specs.Leads.{steps_made};
-ghost use Rattle.forest.specs.Hands.{IsAt, hand_calls, hand_slots, names};
+ghost use Rattle.forest.specs.Hands.{IsAt, hand_calls, hand_slots, names, IsHandOf};
 ghost use Rattle.forest.specs.Seats.{StaysAtTable};
 ghost use Rattle.forest.specs.Traces.{shared_nodes};
 ghost use Rattle.forest.specs.StraightWalk.{AsksBelow, HasWalked, WalkFinds, Walker, WalkerGoesDown, WalkerIsTold, WalkerWaits};
@@ -94,7 +94,8 @@ pub(crate) fn read<S: TableShape, M: CallMachine<S>>(
 /// begin, at each node. A walk to the first pair needs those alone.
 #[inline(always)]
 pub(crate) fn start_for<S: TableShape>(hand: Hand<S>, goal: Goal, node: NodeNo) -> usize
-    requires { node.0 < all_nodes (names hand) }
+    requires table { IsHandOf S.mode S.lasts hand }
+    requires node { node.0 < all_nodes (names hand) }
     ensures { result ≡ node_begins (hand_slots hand.entry) node }
 {
     let start = hand.node_start(node);

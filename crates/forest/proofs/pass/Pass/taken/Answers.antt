@@ -1,6 +1,6 @@
-use Rattle.std.proofs.Common.{◌∙◌, ap, sym}
+use Rattle.std.proofs.Common.{ap}
 use Rattle.forest.specs.Passes.{taken_of}
 use Rattle.forest.proofs.pass.Pass.taken.Goals as goal
 
 pub returns : goal.returns
-returns g c = ap taken_of c.self.view_is
+returns g c = rw (c.next.ensures.1, c.self.invariant.first_is) (ap taken_of c.self.view_is)

@@ -9,7 +9,7 @@ use Rattle.forest.proofs.straight.guard.begin.Goals as goal
 pub returns-clause-walks : goal.returns-clause-walks
 returns-clause-walks g c =
     let plain = sym c.guard.ensures ∙ c.if-guard.false in record {
-      table = (refl, refl);
+      table = (refl, refl, refl);
       to = λ u x. rw c.root.ensures (λ has. absurd (let z : false ≡ true = sym plain ∙ has in cc), roots u c.args.run.now c.args.way c.args.goal _ c.requires.goes.0 c.requires.goes.1 x);
       is = refl;
       stands = rw c.root.ensures record { place = tt; begins = root_begins (hand_slots c.args.hand) };

@@ -36,7 +36,7 @@ from_place-requires-clause-waits g c = let r = c.requires.begins in let u = r.0 
 
 pub returns-in-Err-clause-ends : goal.returns-in-Err-clause-ends
 returns-in-Err-clause-ends g c = record {
-  table = (c.from_place.ensures.table.0 ∙ c.look.ensures.table.0 ∙ c.step-head.ensures.table.0, c.from_place.ensures.table.1 ∙ c.look.ensures.table.1 ∙ c.step-head.ensures.table.1);
+  table = (c.from_place.ensures.table.0 ∙ c.look.ensures.table.0 ∙ c.step-head.ensures.table.0, c.from_place.ensures.table.1 ∙ c.look.ensures.table.1 ∙ c.step-head.ensures.table.1, c.from_place.ensures.table.2 ∙ c.look.ensures.table.2 ∙ c.step-head.ensures.table.2);
   to = λ u x. c.from_place.ensures.to u (rw c.again-at.ensures (guards_again u c.args.run.now c.args.way c.args.goal c.step-head.result _ c.in-Err.marked c.in-Err.scx (c.in-Err.ensures.waits (guard_looker u c.args.run.now c.args.way c.args.goal c.step-head.result) (looks g (goal.at.returns-in-Err-clause-ends g c).After-step-head u x))));
   steps = left_again g.E.Edit.means c.args.run.now c.args.way c.args.goal c.step-head.result c.in-Err.marked c.in-Err.scx (shared_nodes (names c.args.hand)) _ _ _ _ c.requires.goes.0 c.requires.guard c.step-head.ensures.one c.look.ensures.steps (rw c.again-at.ensures at c.from_place.ensures.steps);
 }
@@ -51,7 +51,7 @@ descend-requires-clause-waits g c = let r = c.requires.begins in let at = goal.a
 
 pub returns-in-Ok-clause-walks : goal.returns-in-Ok-clause-walks
 returns-in-Ok-clause-walks g c = record {
-  table = (c.descend.ensures.table.0 ∙ c.look.ensures.table.0 ∙ c.step-head.ensures.table.0, c.descend.ensures.table.1 ∙ c.look.ensures.table.1 ∙ c.step-head.ensures.table.1);
+  table = (c.descend.ensures.table.0 ∙ c.look.ensures.table.0 ∙ c.step-head.ensures.table.0, c.descend.ensures.table.1 ∙ c.look.ensures.table.1 ∙ c.step-head.ensures.table.1, c.descend.ensures.table.2 ∙ c.look.ensures.table.2 ∙ c.step-head.ensures.table.2);
   to = λ u x.
       let at = goal.at.returns-in-Ok-clause-walks g c in
       let kept : UpdateRun g.row.E.Denot (Unit {0}) = record c.args.run.now { guard = c.in-Ok.snap } in

@@ -16,7 +16,7 @@ returns-then-finalizes g c = record {
 
 pub returns-else-finalizes : goal.returns-else-finalizes
 returns-else-finalizes g c = record {
-  table = (refl, refl);
+  table = (refl, refl, refl);
   to = λ k x. skips k _ c.args.run.now (member_index c.args.j) (sym c.finalizes.ensures ∙ c.if-finalizes.false) x;
   steps = omega arith;
 }

@@ -3,7 +3,7 @@ use Rattle.template.specs.Common.{End}
 use Rattle.std.proofs.Common.{◌≡◌, ◌+◌, ◌≤◌, suc}
 use Rattle.histories.specs.Common.{LoadSettled, Settled, Head, node}
 use Rattle.forest.specs.StraightWalk.{Walker, WalkerWaits, WalkerIsAt}
-use Rattle.forest.specs.Traces.{seat_steps, shared_nodes}
+use Rattle.forest.specs.Traces.{kept_of, seat_steps, shared_nodes}
 use Rattle.forest.specs.CallKinds.{calls}
 use Rattle.forest.specs.Hands.{hand_slots, names}
 use Rattle.forest.specs.Slotted.{node_begins}
@@ -14,7 +14,7 @@ use Rattle.forest.proofs.straight.last_walk.to_last_from.Given as goal
 
 abbrev pub invariant-loop-side : goal.invariant-loop-side
 invariant-loop-side g l = record {
-  here : (l.seat.table_id ≡ l.fn.seat.table_id) × (l.seat.me.1 ≡ l.fn.seat.me.1);
+  here : (l.seat.table_id ≡ l.fn.seat.table_id) × (l.seat.me.1 ≡ l.fn.seat.me.1) × (kept_of l.seat.me.0.passes ≡ kept_of l.fn.seat.me.0.passes);
   loads : LoadsHead l.place.at;
   start : l.place.start ≡ node_begins (hand_slots l.fn.hand) l.place.trail.node;
   steps : seat_steps l.seat.me.0.passes + suc (walk_left l.place.at (room l.way (shared_nodes (names l.fn.hand)))) ≤ seat_steps l.fn.seat.me.0.passes + suc (walk_left l.fn.first.at (room l.way (shared_nodes (names l.fn.hand))));

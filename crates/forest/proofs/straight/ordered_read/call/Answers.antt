@@ -25,7 +25,7 @@ go_on-requires-clause-waits g c = let b = c.requires.begins in (b.0, rw (c.child
 
 pub returns-in-Walk-clause-leads : goal.returns-in-Walk-clause-leads
 returns-in-Walk-clause-leads g c = record {
-  table = (c.go_on.ensures.table.0 ∙ c.to_goal.ensures.table.0, c.go_on.ensures.table.1 ∙ c.to_goal.ensures.table.1);
+  table = (c.go_on.ensures.table.0 ∙ c.to_goal.ensures.table.0, c.go_on.ensures.table.1 ∙ c.to_goal.ensures.table.1, c.go_on.ensures.table.2 ∙ c.to_goal.ensures.table.2);
   to = λ r x. c.go_on.ensures.to r (rw (c.children-children.ensures, c.to-node.ensures) (walk_looks r c.start.new.self c.in-Walk.key c.in-Walk.side c.in-Walk.ensures.begins _ c.to_goal.result.0 c.to_goal.result.1 (rw (is_way g (goal.at.returns-in-Walk-clause-leads g c).After-leaf_way-way) at (c.to_goal.ensures.finds (walker r c.start.new.self c.in-Walk.key c.in-Walk.side c.in-Walk.ensures.begins) (rw (is_way g (goal.at.returns-in-Walk-clause-leads g c).After-leaf_way-way) (walks r c.start.new.self c.in-Walk.key c.in-Walk.side c.in-Walk.ensures.begins _ c.args.run.now c.start.ensures.same c.start.ensures.tries c.start.ensures.empty x))))));
   steps = (let b = c.requires.begins in walk_in_try g.R.Read.means c.args.run.now c.start.new.self c.start.ensures.same c.start.ensures.tries c.start.ensures.empty (b.0.tells c.args.run.now _ _ b.1.so.0).1 _ _ _ c.children-children.result c.to-node.result c.in-Walk.key _ c.in-Walk.side (c.in-Walk.ensures.nearer _)
       (leaf_steps c.args.run.now.trie _ _ _ (shared_nodes (names c.args.hand)) (is_way g (goal.at.returns-in-Walk-clause-leads g c).After-leaf_way-way ∙ ap leaf_way c.start.ensures.same.4) c.to_goal.ensures.steps)
@@ -51,7 +51,7 @@ returns-in-Root-clause-nothing g c = λ none. absurd (none (rw c.start.ensures.s
 
 pub returns-in-Answer-clause-leads : goal.returns-in-Answer-clause-leads
 returns-in-Answer-clause-leads g c = record {
-  table = (refl, refl);
+  table = (refl, refl, refl);
   to = λ r x. ends_at_once r _ c.args.run.now c.start.new.self c.start.ensures.same c.in-Answer.answer c.in-Answer.ensures.begins x;
   steps = omega arith;
 }

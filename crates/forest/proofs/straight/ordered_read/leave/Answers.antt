@@ -8,4 +8,4 @@ pub returns-in-Again : goal.returns-in-Again
 returns-in-Again g c = rw c.in-Again.is c.look_again.ensures
 
 pub returns-in-Refused : goal.returns-in-Refused
-returns-in-Refused g c = rw c.in-Refused.is record { table = (refl, refl); to = λ r x. x; steps = omega arith }
+returns-in-Refused g c = rw c.in-Refused.is record { table = (refl, refl, refl); to = λ r x. x; steps = omega arith }

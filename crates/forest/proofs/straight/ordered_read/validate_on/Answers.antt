@@ -11,7 +11,7 @@ tell-requires-clause-told g c = let w = c.requires.waits in (w.0, told_vlx w.0 c
 
 pub returns-in-Some : goal.returns-in-Some
 returns-in-Some g c = record {
-  table = (c.tell.ensures.table.0 ∙ c.validate.ensures.table.0, c.tell.ensures.table.1 ∙ c.validate.ensures.table.1);
+  table = (c.tell.ensures.table.0 ∙ c.validate.ensures.table.0, c.tell.ensures.table.1 ∙ c.validate.ensures.table.1, c.tell.ensures.table.2 ∙ c.validate.ensures.table.2);
   to = λ r x. c.tell.ensures.to r (told_vlx r c.args.run.now c.as_slice-snaps.result.now c.as_slice-snaps.ensures.value _ _ _ (c.in-Some.ensures.told (validator r c.args.run.now c.as_slice-snaps.result.now c.as_slice-snaps.ensures.value) (begins_vlx r c.args.run.now c.as_slice-snaps.result.now c.as_slice-snaps.ensures.value _ x)));
   steps = search rules;
 }

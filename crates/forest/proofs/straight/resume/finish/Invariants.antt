@@ -1,7 +1,7 @@
 use Rattle.std.proofs.Common.{◌≡◌, ◌+◌, ◌≤◌}
 use Rattle.forest.specs.Hosts.{HostedStands}
 use Rattle.forest.specs.StraightUpdate.{Updater}
-use Rattle.forest.specs.Traces.{seat_steps, shared_nodes, weight}
+use Rattle.forest.specs.Traces.{kept_of, seat_steps, shared_nodes, weight}
 use Rattle.forest.specs.CallKinds.{calls}
 use Rattle.forest.specs.Hands.{names}
 use Rattle.edits.specs.Steps.{update_left}
@@ -9,7 +9,7 @@ use Rattle.forest.proofs.straight.resume.finish.Given as goal
 
 abbrev pub invariant-loop-turn : goal.invariant-loop-turn
 invariant-loop-turn g l = record {
-  here : (l.seat.table_id ≡ l.fn.seat.table_id) × (l.seat.me.1 ≡ l.fn.seat.me.1);
+  here : (l.seat.table_id ≡ l.fn.seat.table_id) × (l.seat.me.1 ≡ l.fn.seat.me.1) × (kept_of l.seat.me.0.passes ≡ kept_of l.fn.seat.me.0.passes);
   stands : (u : Updater (calls g.S.Shape g.M.Machine g.M.CallMachine.left_dealt (names l.hand) l.hand.number) g.E.Edit.means)
       → HostedStands u l.fn.seat.me.0.passes l.fn.machine l.fn.turn
       → HostedStands u l.seat.me.0.passes l.machine l.turn;

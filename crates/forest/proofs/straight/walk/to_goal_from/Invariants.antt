@@ -1,6 +1,6 @@
 use Rattle.std.proofs.Common.{◌≡◌, ◌+◌, ◌≤◌, suc}
 use Rattle.forest.specs.StraightWalk.{Walker, WalkerIsAt}
-use Rattle.forest.specs.Traces.{seat_steps, shared_nodes}
+use Rattle.forest.specs.Traces.{kept_of, seat_steps, shared_nodes}
 use Rattle.forest.specs.CallKinds.{calls}
 use Rattle.forest.specs.Hands.{hand_slots, names}
 use Rattle.forest.specs.Slotted.{node_begins}
@@ -11,7 +11,7 @@ use Rattle.forest.proofs.straight.walk.to_goal_from.Given as goal
 
 abbrev pub invariant-loop-below : goal.invariant-loop-below
 invariant-loop-below g l = record {
-  here : (l.seat.table_id ≡ l.fn.seat.table_id) × (l.seat.me.1 ≡ l.fn.seat.me.1);
+  here : (l.seat.table_id ≡ l.fn.seat.table_id) × (l.seat.me.1 ≡ l.fn.seat.me.1) × (kept_of l.seat.me.0.passes ≡ kept_of l.fn.seat.me.0.passes);
   loads : LoadsHead l.place.at;
   start : l.place.start ≡ node_begins (hand_slots l.fn.hand) l.place.trail.node;
   steps : seat_steps l.seat.me.0.passes + suc (walk_left l.place.at (room l.way (shared_nodes (names l.fn.hand)))) ≤ seat_steps l.fn.seat.me.0.passes + suc (walk_left l.fn.first.at (room l.way (shared_nodes (names l.fn.hand))));
