@@ -67,3 +67,4 @@ mod UpkeepBook
 mod UpkeepLooks
 mod UpkeepTurn
 mod UpkeepTurns
+mod UpkeepDeals

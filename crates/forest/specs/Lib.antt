@@ -42,3 +42,4 @@ pub mod Ruled
 pub mod UpkeepSteps
 pub mod UpkeepPeriod
 pub mod UpkeepBook
+pub mod UpkeepDeals

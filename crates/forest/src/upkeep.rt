@@ -19,6 +19,7 @@ pub(crate) mod book;
 pub(crate) mod clean;
 pub(crate) mod kind;
 pub(crate) mod looks;
+pub(crate) mod names;
 pub(crate) mod part;
 pub(crate) mod period;
 pub(crate) mod turn;
