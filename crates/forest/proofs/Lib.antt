@@ -67,4 +67,5 @@ mod UpkeepBook
 mod UpkeepLooks
 mod UpkeepTurn
 mod UpkeepTurns
+mod UpkeepShares
 mod UpkeepDeals

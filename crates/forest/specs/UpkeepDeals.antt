@@ -57,6 +57,7 @@ with_left Scx left next count = record left { next_scx = next; scx = count }
 -- The pass is there and between two calls, the run that it knows is lawful, and this is left of its
 -- share.
 pub record HasLeft (allows : Layout → History → ℕ → Type 0) (p : SeatedPass) (left : Remaining) : Type 0 where
+  pub is_pass : p.number.0 < p.layout.passes
   pub run : IsRun allows p.layout (past_of p [])
   pub there : p.memory.away ≡ false
   pub share : IsShare p.layout (past_of p []) p.number.0 left left.next_node left.next_scx
