@@ -69,3 +69,4 @@ mod UpkeepTurn
 mod UpkeepTurns
 mod UpkeepShares
 mod UpkeepDeals
+mod UpkeepDealt

@@ -1,9 +1,11 @@
 -- How free slots get names.
 use Rattle.std.proofs.Common.{◌≡◌, ◌≢◌, ◌<◌, ◌≤◌, ◌+◌, ◌-◌, ◌⊎◌, ◌++◌, ℕ, zero, suc, List, [], ◌∷◌, inl, inr, ⊎_elim, refl, sym, ◌∙◌, ap, subst, append_assoc, arith}
+use Rattle.arena.specs.declared.number.PassNo.{PassNo}
 use Rattle.arena.specs.declared.word.ScxWord.TheVariants.{Plan}
 use Rattle.histories.specs.Common.{Abort, Fill, Head, History, IsRun, Lawful, Layout, Remaining, Row, Seen, Settled, node, scx, state}
 use Rattle.histories.proofs.Lemmas.{lawful_tail}
 use Rattle.planting.specs.Plantings.{PlantingView}
+use Rattle.prims.specs.Moments.{AreFinished}
 use Rattle.prims.specs.Shares.{IsShare}
 use Rattle.slots.specs.Lasting.{IsOwnName, Lasting}
 use Rattle.slots.specs.Passing.{row_over}
@@ -14,6 +16,7 @@ use Rattle.forest.specs.LastingSlots.{slot_number}
 use Rattle.forest.specs.Passes.{Each}
 use Rattle.forest.specs.TableRule.{ByOthers, history_of, past_of, seated_pass}
 use Rattle.forest.specs.UpkeepBook.{count_own, dealt_of, first_own, numbered}
+use Rattle.forest.specs.UpkeepSteps.{HasGoneOnResting}
 use Rattle.forest.specs.UpkeepDeals.{DealsOn, HasGoneOnDealing, HasLeft, HasPassedTo, IsOfNoCall, MayGet, ahead, memory_given, next_of, past_names, with_left}
 use Rattle.forest.specs.declared.memory.PassMemory.{PassMemory}
 use Rattle.forest.specs.declared.memory.RecordNo.{RecordNo}
@@ -165,3 +168,39 @@ module _ (allows : Layout → History → ℕ → Type 0) (t : Lasting) (kind : 
 
       by_pass : (k : SeatedPass) → k ≡ p → (others : List Row) → ByOthers k.number.0 others → IsRun allows k.layout (history_of k.planting (rows_of k others)) → w.passes ≡ later_of k others ∷ [] → DealsOn (HasPassedTo allows t kind slot count) v w
       by_pass k e = subst (λ (k : SeatedPass). (others : List Row) → ByOthers k.number.0 others → IsRun allows k.layout (history_of k.planting (rows_of k others)) → w.passes ≡ later_of k others ∷ [] → DealsOn (HasPassedTo allows t kind slot count) v w) (sym e) direct
+
+-- what is so of the one pass of a seat, is so of p if it is that
+pub deals_as : (one two : SeatedPass → SeatedPass → Type 0) (v w : SeatView) (p : SeatedPass) → v.passes ≡ p ∷ [] → ((q : SeatedPass) → HasGoneOnDealing p q → one p q → two p q) → DealsOn one v w → DealsOn two v w
+deals_as one two v w p alone to x =
+    let y : HasGoneOnDealing p x.later × one p x.later = subst (λ (k : SeatedPass). HasGoneOnDealing k x.later × one k x.later) (same_pass v.passes p x.pass alone x.was) (x.goes_on, x.holds) in
+    record { pass = p; later = x.later; was = alone; is = x.is; goes_on = y.0; holds = to x.later y.0 y.1 }
+
+-- what is left of its share is so while others go on
+pub left_on : (allows : Layout → History → ℕ → Type 0) (p q : SeatedPass) (left : Remaining) → HasGoneOnResting allows p q → q.memory.away ≡ p.memory.away → HasLeft allows p left → HasLeft allows q left
+left_on allows p q left goes away has = record {
+  is_pass = subst (λ (l : Layout). q.number.0 < l.passes) (sym goes.layout) (subst (λ (k : PassNo). k.0 < p.layout.passes) (sym goes.number) has.is_pass);
+  run = goes.sound has.run;
+  there = away ∙ has.there;
+  share = subst (λ (l : Layout). IsShare l (past_of q []) q.number.0 left left.next_node left.next_scx) (sym goes.layout)
+      (subst (λ (k : PassNo). IsShare p.layout (past_of q []) k.0 left left.next_node left.next_scx) (sym goes.number) (subst (λ h. IsShare p.layout h p.number.0 left left.next_node left.next_scx) (sym run_is)
+      (share_behind p.layout p.planting p.number.0 left left.next_node left.next_scx goes.others p.known has.is_pass lawful goes.by_others has.share)));
+  over = subst (λ (l : Layout). AreFinished l q.number.0 0 (past_of q [])) (sym goes.layout)
+      (subst (λ (k : PassNo). AreFinished p.layout k.0 0 (past_of q [])) (sym goes.number) (subst (λ h. AreFinished p.layout p.number.0 0 h) (sym run_is)
+      (finished_behind p.layout p.planting p.number.0 goes.others p.known lawful goes.by_others has.over)));
+}
+  where
+    run_is : past_of q [] ≡ history_of p.planting (goes.others ++ p.known)
+    run_is = ap (λ (l : PlantingView). history_of l q.known) goes.planting ∙ ap (history_of p.planting) goes.known
+
+    lawful : Lawful p.layout (history_of p.planting (goes.others ++ p.known))
+    lawful = subst (Lawful p.layout) run_is (subst (λ (l : Layout). Lawful l (past_of q [])) goes.layout (goes.sound has.run).lawful)
+
+-- so many are left from the same name on
+pub left_as : (allows : Layout → History → ℕ → Type 0) (p : SeatedPass) (left : Remaining) (kind : RecordKind) (next count : ℕ) → next_of kind left ≡ next → next + count ≤ first_own kind p.layout p.number.0 + count_own kind p.layout → HasLeft allows p left → HasLeft allows p (with_left kind left next count)
+left_as allows p left kind next count same few has = record {
+  is_pass = has.is_pass;
+  run = has.run;
+  there = has.there;
+  share = share_as p.layout (past_of p []) p.number.0 left kind next count same few has.share;
+  over = has.over;
+}

@@ -1,5 +1,5 @@
 -- How free slots get names, and names that are left are given back.
-use Rattle.std.specs.Prelude.{◌≡◌, ◌≢◌, ◌+◌, ◌-◌, ◌<◌, ◌≤◌, ◌⊎◌, ◌++◌, ℕ, false, List, [], ◌∷◌}
+use Rattle.std.specs.Prelude.{◌≡◌, ◌≢◌, ◌+◌, ◌-◌, ◌<◌, ◌≤◌, ◌⊎◌, ◌++◌, ◌%◌, ℕ, false, List, [], ◌∷◌, Option, Some, length, slice_get}
 use Rattle.histories.specs.Common.{Abort, Fill, History, IsRun, Layout, Remaining, Row}
 use Rattle.planting.specs.Plantings.{PlantingView}
 use Rattle.prims.specs.Moments.{AreFinished}
@@ -15,6 +15,8 @@ use Rattle.forest.specs.TableRule.{past_of}
 use Rattle.forest.specs.UpkeepBook.{AreSameSlots, IsBook, IsCleanSlot, SparesOthers, dealt_of, numbered}
 use Rattle.forest.specs.declared.memory.PassMemory.{PassMemory}
 use Rattle.forest.specs.declared.memory.RecordNo.{RecordNo}
+use Rattle.forest.specs.declared.upkeep.book.Known.TheVariants.{Free}
+use Rattle.forest.specs.declared.upkeep.book.OwnSlot.{OwnSlot}
 use Rattle.forest.specs.declared.upkeep.book.OwnSlots.{OwnSlots}
 use Rattle.forest.specs.declared.upkeep.kind.RecordKind.{RecordKind}
 use Rattle.forest.specs.declared.upkeep.kind.RecordKind.TheVariants.{Node, Scx}
@@ -117,6 +119,16 @@ pub record AreSlotsStill (old new : OwnSlots) : Type 0 where
   pub first : new.first ≡ old.first
   pub turn : new.turn ≡ old.turn
   pub end : new.end ≡ old.end
+  pub count : length new.slots.items ≡ length old.slots.items
+
+-- this slot is free
+abbrev pub IsFreeAt : OwnSlots → ℕ → Type 0
+IsFreeAt own i = (x : OwnSlot) × (slice_get own.slots.items i ≡ Some x) × (x.known ≡ Free)
+
+-- the name that is so many behind those that are dealt is one of this slot
+pub record HasNameFor (own : OwnSlots) (i count : ℕ) : Type 0 where
+  pub slot_is : (own.dealt + count) % own.turn ≡ own.first + i
+  pub inside : own.dealt + count < own.end
 
 -- The pass p, which is q now, has given names to slots, or has given names back: of a share with all
 -- names from this one on, which were dealt, now all from that one on are left.
