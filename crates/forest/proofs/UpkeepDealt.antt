@@ -11,11 +11,11 @@ use Rattle.resting.specs.Records.{Record, record_of, the_node, the_scx}
 use Rattle.slots.specs.Lasting.{IsOwnName, IsOwnRecord, Lasting, slot_of}
 use Rattle.forest.specs.LastingMemory.{record_at}
 use Rattle.forest.specs.LastingNotes.{IsAmongThese}
-use Rattle.forest.specs.LastingSlots.{slot_number}
+use Rattle.forest.specs.LastingSlots.{IsLastDealt, IsNotBefore, memory_given_back, slot_number}
 use Rattle.forest.specs.TableRule.{history_of, past_of}
-use Rattle.forest.specs.UpkeepBook.{AreAllOwn, IsBook, IsCleanSlot, IsKnownSo, IsNameIn, IsOfKind, IsSlotSo, SparesOthers, count_own, dealt_of, first_own, numbered, record_numbered, turn_of}
+use Rattle.forest.specs.UpkeepBook.{AreAllOwn, HasFreed, IsBook, IsCleanSlot, IsKnownSo, IsNameIn, IsOfKind, IsSlotSo, KeepsRests, SparesOthers, count_own, dealt_of, first_own, numbered, record_numbered, turn_of}
 use Rattle.forest.specs.UpkeepSteps.{HasGoneOnResting}
-use Rattle.forest.specs.UpkeepDeals.{AreSlotsStill, HasDealt, HasLeft, HasNameFor, IsFreeAt, KeepsPolls, MayGet, ahead, memory_given, next_of, with_left}
+use Rattle.forest.specs.UpkeepDeals.{AreSlotsStill, HasDealt, HasLeft, HasNameFor, IsFreeAt, IsNameAt, KeepsPolls, MayGet, ahead, memory_given, next_of, with_left}
 use Rattle.forest.specs.declared.memory.PassMemory.{PassMemory}
 use Rattle.forest.specs.declared.memory.RecordNo.{RecordNo}
 use Rattle.forest.specs.declared.upkeep.book.Known.{Known}
@@ -25,8 +25,9 @@ use Rattle.forest.specs.declared.upkeep.book.OwnSlots.{OwnSlots}
 use Rattle.forest.specs.declared.upkeep.kind.RecordKind.{RecordKind}
 use Rattle.forest.specs.declared.upkeep.kind.RecordKind.TheVariants.{Node, Scx}
 use Rattle.forest.specs.declared.view.SeatedPass.{SeatedPass}
-use Rattle.forest.proofs.UpkeepBook.{among_others, slot_record, spares_more}
+use Rattle.forest.proofs.UpkeepBook.{among_others, slot_record, spares_more, spares_on}
 use Rattle.forest.proofs.UpkeepDeals.{left_as, left_on}
+use Rattle.forest.proofs.UpkeepSteps.{rests_on}
 use Rattle.forest.proofs.UpkeepTurns.{is_of_kind, numbered_apart, other_book, set_at, set_beside, slot_kept}
 
 -- Before
@@ -116,6 +117,16 @@ given_keeps Scx m count slot rows = record { away = refl; often = refl; polls = 
     others Node d = refl
     others Scx d = absurd (d refl)
 
+-- they are all slots of the pass still
+all_still : (t : Lasting) (p q : SeatedPass) (old new : OwnSlots) → AreSlotsStill old new → q.number ≡ p.number → new.dealt ≡ dealt_of new.kind q.memory → AreAllOwn t p old → AreAllOwn t q new
+all_still t p q old new still number dealt all = record {
+  first = still.first ∙ all.first ∙ ap (λ (k : RecordKind). first_own k t.table p.number.0) (sym still.kind) ∙ ap (λ (n : PassNo). first_own new.kind t.table n.0) (sym number);
+  count = still.count ∙ all.count ∙ ap (λ (k : RecordKind). count_own k t.table) (sym still.kind);
+  turn = still.turn ∙ all.turn ∙ ap (λ (k : RecordKind). turn_of k t) (sym still.kind);
+  end = still.end ∙ all.end ∙ ap (λ (k : RecordKind). first_own k t.lay p.number.0 + count_own k t.lay) (sym still.kind) ∙ ap (λ (n : PassNo). first_own new.kind t.lay n.0 + count_own new.kind t.lay) (sym number);
+  dealt = dealt;
+}
+
 -- a slot has got its next name
 module _ (t : Lasting) (old new : OwnSlots) (i count : ℕ) (p q : SeatedPass) (number : q.number ≡ p.number) (planting : q.planting ≡ p.planting) (memory : q.memory ≡ memory_given old.kind p.memory count (numbered old.kind (old.first + i)) q.known) (still : AreSlotsStill old new) (dealt : new.dealt ≡ old.dealt + count + 1) (slots : new.slots.items ≡ set old.slots.items i record { name = old.dealt + count; known = Used }) (may : MayGet t p old.kind (old.first + i) count) where
   abbrev kind : RecordKind
@@ -157,13 +168,7 @@ module _ (t : Lasting) (old new : OwnSlots) (i count : ℕ) (p q : SeatedPass) (
 
     pub book_then : IsBook t q since new
     book_then = record {
-      all = record {
-        first = still.first ∙ book.all.first ∙ ap (λ (k : RecordKind). first_own k t.table p.number.0) (sym still.kind) ∙ ap (λ (n : PassNo). first_own new.kind t.table n.0) (sym number);
-        count = still.count ∙ book.all.count ∙ ap (λ (k : RecordKind). count_own k t.table) (sym still.kind);
-        turn = still.turn ∙ book.all.turn ∙ ap (λ (k : RecordKind). turn_of k t) (sym still.kind);
-        end = still.end ∙ book.all.end ∙ ap (λ (k : RecordKind). first_own k t.lay p.number.0 + count_own k t.lay) (sym still.kind) ∙ ap (λ (n : PassNo). first_own new.kind t.lay n.0 + count_own new.kind t.lay) (sym number);
-        dealt = dealt ∙ (let e = book.all.dealt in let z : old.dealt + count + 1 ≡ dealt_of kind p.memory + suc count = omega (arith, e) in z) ∙ sym (given_dealt kind p.memory count (numbered kind slot) q.known) ∙ ap (λ (m : PassMemory). dealt_of kind m) (sym memory) ∙ ap (λ (k : RecordKind). dealt_of k q.memory) (sym still.kind);
-      };
+      all = all_still t p q old new still number (dealt ∙ (let e = book.all.dealt in let z : old.dealt + count + 1 ≡ dealt_of kind p.memory + suc count = omega (arith, e) in z) ∙ sym (given_dealt kind p.memory count (numbered kind slot) q.known) ∙ ap (λ (m : PassMemory). dealt_of kind m) (sym memory) ∙ ap (λ (k : RecordKind). dealt_of k q.memory) (sym still.kind)) book.all;
       slots = λ j x from to there. subst (λ (k : RecordKind). IsSlotSo t q since k (new.first + j) x) (sym still.kind) (subst (λ n. IsSlotSo t q since kind (n + j) x) (sym still.first)
           (known j x there (subst (λ n. j < n) still.count to) (ℕ_discrete j i)));
     }
@@ -190,3 +195,125 @@ next_dealt allows t old new i next p q since goes memory still dealt slots may n
     few = subst (λ (l : Layout). next + (new.dealt - next) ≤ first_own old.kind l q.number.0 + count_own old.kind l) (sym (goes.layout ∙ layout))
         (subst (λ (k : PassNo). next + (new.dealt - next) ≤ first_own old.kind t.lay k.0 + count_own old.kind t.lay) (sym goes.number)
         (let inside = name.inside in let end = book.all.end in omega (arith, inside, end, dealt, less)))
+
+-- Given back
+
+pub last_dealt : (kind : RecordKind) (m : PassMemory) (name : ℕ) → dealt_of kind m ≡ suc name → IsLastDealt m (record_numbered kind name)
+last_dealt Node m name e = e
+last_dealt Scx m name e = e
+
+pub is_left : (kind : RecordKind) (left : Remaining) (name : ℕ) → next_of kind left ≤ name → IsNotBefore left (record_numbered kind name)
+is_left Node left name less = less
+is_left Scx left name less = less
+
+back_spares : (t : Lasting) (kind : RecordKind) (m : PassMemory) (name : ℕ) (slot : Record) → slot_of t (record_numbered kind name) ≡ slot → SparesOthers t (λ r. r ≡ slot) m (memory_given_back t m (numbered kind name))
+back_spares t Node m name slot is = record {
+  notes = λ x i. i;
+  holds = λ x i d. among_others record_at (record_numbered Node name) x m.holds i (λ e. d (ap (slot_of t) e ∙ is));
+  empty = λ x i d. inr i;
+  zeros = λ w i d. i;
+}
+back_spares t Scx m name slot is = record {
+  notes = λ x i. i;
+  holds = λ x i d. among_others record_at (record_numbered Scx name) x m.holds i (λ e. d (ap (slot_of t) e ∙ is));
+  empty = λ x i d. inr i;
+  zeros = λ w i d. i;
+}
+
+back_empty : (t : Lasting) (kind : RecordKind) (m : PassMemory) (name : ℕ) → IsAmongThese (slot_number t (numbered kind name)) (memory_given_back t m (numbered kind name)).empty
+back_empty t Node m name = inl refl
+back_empty t Scx m name = inl refl
+
+back_dealt : (t : Lasting) (kind : RecordKind) (m : PassMemory) (name : ℕ) → dealt_of kind (memory_given_back t m (numbered kind name)) ≡ name
+back_dealt t Node m name = refl
+back_dealt t Scx m name = refl
+
+back_keeps : (t : Lasting) (kind : RecordKind) (m : PassMemory) (name : ℕ) → KeepsPolls kind m (memory_given_back t m (numbered kind name))
+back_keeps t Node m name = record { away = refl; often = refl; polls = refl; others = others }
+  where
+    others : (other : RecordKind) → other ≢ Node → dealt_of other (memory_given_back t m (numbered Node name)) ≡ dealt_of other m
+    others Node d = absurd (d refl)
+    others Scx d = refl
+back_keeps t Scx m name = record { away = refl; often = refl; polls = refl; others = others }
+  where
+    others : (other : RecordKind) → other ≢ Scx → dealt_of other (memory_given_back t m (numbered Scx name)) ≡ dealt_of other m
+    others Node d = refl
+    others Scx d = absurd (d refl)
+
+same_rests : (kind : RecordKind) (m n : PassMemory) → KeepsRests m n → dealt_of kind n ≡ dealt_of kind m
+same_rests Node m n x = x.nodes_to
+same_rests Scx m n x = x.scx_to
+
+module _ (allows : Layout → History → ℕ → Type 0) (t : Lasting) (old new : OwnSlots) (i next name : ℕ) (p : SeatedPass) (since : List Row) (book : IsBook t p since old) (at : IsNameAt old name i) where
+  -- the slot holds the name
+  pub name_there : IsNameIn t p.number.0 p.memory old.kind (old.first + i) name
+  name_there = subst (λ n. IsNameIn t p.number.0 p.memory old.kind (old.first + i) n) at.3
+      (subst (λ (k : Known). IsKnownSo t p.planting p.number.0 p.memory since old.kind (old.first + i) at.0.name k) at.2 (book.slots i at.0 (omega arith) (within old.slots.items i at.0 at.1) at.1))
+
+  module _ (q : SeatedPass) (memory : q.memory ≡ memory_given_back t p.memory (numbered old.kind name)) where
+    -- its slot is empty then
+    pub empty_then : IsAmongThese (numbered old.kind (old.first + i)) q.memory.empty
+    empty_then = subst (λ (m : PassMemory). IsAmongThese (numbered old.kind (old.first + i)) m.empty) (sym memory) (subst (λ (n : RecordNo). IsAmongThese n (memory_given_back t p.memory (numbered old.kind name)).empty) name_there.slot_is (back_empty t old.kind p.memory name))
+
+    module _ (r : SeatedPass) (goes : HasGoneOnResting allows p q) (on : HasGoneOnResting allows q r) (freed : HasFreed t old.kind (old.first + i) q r) (still : AreSlotsStill old new) (dealt : new.dealt ≡ name) (slots : new.slots.items ≡ set old.slots.items i record { name = name; known = Free }) where
+      number : r.number ≡ p.number
+      number = on.number ∙ goes.number
+
+      planting : r.planting ≡ p.planting
+      planting = on.planting ∙ goes.planting
+
+      back_kept : KeepsPolls old.kind p.memory r.memory
+      back_kept = let x : KeepsPolls old.kind p.memory q.memory = subst (λ (m : PassMemory). KeepsPolls old.kind p.memory m) (sym memory) (back_keeps t old.kind p.memory name) in let y = freed.keeps.rests in record {
+        away = y.away ∙ x.away;
+        often = y.often ∙ x.often;
+        polls = y.polls ∙ x.polls;
+        others = λ other d. same_rests other q.memory r.memory y ∙ x.others other d;
+      }
+
+      spared : SparesOthers t (λ k. k ≡ record_numbered old.kind (old.first + i)) p.memory r.memory
+      spared = spares_on t (λ k. k ≡ record_numbered old.kind (old.first + i)) p.memory q.memory r.memory (subst (λ (m : PassMemory). SparesOthers t (λ k. k ≡ record_numbered old.kind (old.first + i)) p.memory m) (sym memory) (back_spares t old.kind p.memory name (record_numbered old.kind (old.first + i)) (slot_record t old.kind (old.first + i) name name_there.slot_is))) freed.keeps.others
+
+      spared_kind : SparesOthers t (IsOfKind old.kind) p.memory r.memory
+      spared_kind = spares_more t (λ k. k ≡ record_numbered old.kind (old.first + i)) (IsOfKind old.kind) p.memory r.memory (λ k e. subst (IsOfKind old.kind) (sym e) (is_of_kind old.kind (old.first + i))) spared
+
+      dealt_then : new.dealt ≡ dealt_of old.kind r.memory
+      dealt_then = dealt ∙ sym (back_dealt t old.kind p.memory name) ∙ ap (λ (m : PassMemory). dealt_of old.kind m) (sym memory) ∙ sym (same_rests old.kind q.memory r.memory freed.keeps.rests)
+
+      slot_then : (before : List Row) (b : IsBook t p before old) (j : ℕ) (x : OwnSlot) → slice_get new.slots.items j ≡ Some x → j < length old.slots.items → Dec (j ≡ i) → IsSlotSo t r before old.kind (old.first + j) x
+      slot_then before b j x there less (yes e) = subst (λ k. IsSlotSo t r before old.kind (old.first + k) x) (sym e)
+          (subst (λ (z : OwnSlot). IsSlotSo t r before old.kind (old.first + i) z) (sym (set_at old.slots.items i record { name = name; known = Free } x (ap (λ (l : List OwnSlot). slice_get l i) (sym slots) ∙ ap (slice_get new.slots.items) (sym e) ∙ there))) freed.clean)
+      slot_then before b j x there less (no d) = slot_kept t p r number planting (λ k. k ≡ record_numbered old.kind (old.first + i)) spared old.kind (old.first + j) (numbered_apart old.kind (old.first + j) (old.first + i) (λ e. d (omega (arith, e)))) before before (ends_self (history_of p.planting before)) x
+          (b.slots j x (omega arith) less (sym (set_beside old.slots.items i j record { name = name; known = Free } d) ∙ ap (λ (l : List OwnSlot). slice_get l j) (sym slots) ∙ there))
+
+      book_back : (before : List Row) → IsBook t p before old → IsBook t r before new
+      book_back before b = record {
+        all = all_still t p r old new still number (dealt_then ∙ ap (λ (k : RecordKind). dealt_of k r.memory) (sym still.kind)) b.all;
+        slots = λ j x from to there. subst (λ (k : RecordKind). IsSlotSo t r before k (new.first + j) x) (sym still.kind) (subst (λ n. IsSlotSo t r before old.kind (n + j) x) (sym still.first)
+            (slot_then before b j x there (subst (λ n. j < n) still.count to) (ℕ_discrete j i)));
+      }
+
+      -- so the name is given back
+      pub given_back : p.layout ≡ t.lay → next ≤ name → name < old.end → HasDealt allows t old new next next p r
+      given_back layout less inside = record {
+        keeps = back_kept;
+        book = book_back;
+        others = λ other before apart. other_book t p r number planting old.kind spared_kind other before apart (back_kept.others other.kind apart);
+        left = λ left has same. left_as allows r left old.kind next (new.dealt - next) same few (left_on allows p r left (rests_on allows p q r goes on) back_kept.away has);
+      }
+        where
+          few : next + (new.dealt - next) ≤ first_own old.kind r.layout r.number.0 + count_own old.kind r.layout
+          few = subst (λ (l : Layout). next + (new.dealt - next) ≤ first_own old.kind l r.number.0 + count_own old.kind l) (sym (on.layout ∙ goes.layout ∙ layout))
+              (subst (λ (k : PassNo). next + (new.dealt - next) ≤ first_own old.kind t.lay k.0 + count_own old.kind t.lay) (sym number)
+              (let end = book.all.end in omega (arith, inside, end, dealt, less)))
+
+-- if nothing was done
+pub dealt_not : (allows : Layout → History → ℕ → Type 0) (t : Lasting) (own : OwnSlots) (next : ℕ) (p : SeatedPass) (since : List Row) → IsBook t p since own → p.layout ≡ t.lay → next ≤ own.dealt → own.dealt ≤ own.end → HasDealt allows t own own next next p p
+dealt_not allows t own next p since book layout less ends = record {
+  keeps = record { away = refl; often = refl; polls = refl; others = λ other d. refl };
+  book = λ before b. b;
+  others = λ other before apart b. b;
+  left = λ left has same. left_as allows p left own.kind next (own.dealt - next) same few has;
+}
+  where
+    few : next + (own.dealt - next) ≤ first_own own.kind p.layout p.number.0 + count_own own.kind p.layout
+    few = subst (λ (l : Layout). next + (own.dealt - next) ≤ first_own own.kind l p.number.0 + count_own own.kind l) (sym layout) (let end = book.all.end in omega (arith, end, less, ends))

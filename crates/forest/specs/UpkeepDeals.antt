@@ -15,7 +15,7 @@ use Rattle.forest.specs.TableRule.{past_of}
 use Rattle.forest.specs.UpkeepBook.{AreSameSlots, IsBook, IsCleanSlot, SparesOthers, dealt_of, numbered}
 use Rattle.forest.specs.declared.memory.PassMemory.{PassMemory}
 use Rattle.forest.specs.declared.memory.RecordNo.{RecordNo}
-use Rattle.forest.specs.declared.upkeep.book.Known.TheVariants.{Free}
+use Rattle.forest.specs.declared.upkeep.book.Known.TheVariants.{Free, Used}
 use Rattle.forest.specs.declared.upkeep.book.OwnSlot.{OwnSlot}
 use Rattle.forest.specs.declared.upkeep.book.OwnSlots.{OwnSlots}
 use Rattle.forest.specs.declared.upkeep.kind.RecordKind.{RecordKind}
@@ -124,6 +124,10 @@ pub record AreSlotsStill (old new : OwnSlots) : Type 0 where
 -- this slot is free
 abbrev pub IsFreeAt : OwnSlots → ℕ → Type 0
 IsFreeAt own i = (x : OwnSlot) × (slice_get own.slots.items i ≡ Some x) × (x.known ≡ Free)
+
+-- this slot is in use, and holds the name
+abbrev pub IsNameAt : OwnSlots → (name i : ℕ) → Type 0
+IsNameAt own name i = (x : OwnSlot) × (slice_get own.slots.items i ≡ Some x) × (x.known ≡ Used) × (x.name ≡ name)
 
 -- the name that is so many behind those that are dealt is one of this slot
 pub record HasNameFor (own : OwnSlots) (i count : ℕ) : Type 0 where
