@@ -70,3 +70,7 @@ mod UpkeepBook
 mod UpkeepLooks
 mod UpkeepTurn
 mod UpkeepTurns
+mod UpkeepShares
+mod UpkeepDeals
+mod UpkeepDealt
+mod UpkeepFirst

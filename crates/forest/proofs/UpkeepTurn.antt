@@ -123,6 +123,10 @@ module _ (t : Lasting) (kind : RecordKind) (slot : ℕ) where
           record { rests = record { rested = refl; away = refl; often = refl; polls = refl; nodes_to = refl; scx_to = refl }; others = spares_let_go t p.memory (numbered kind name) (record_numbered kind slot) (slot_record t kind slot name x.slot_is) },
     )
 
+-- what is so of the one pass of a seat, is so of p if it is that
+pub known_as : (allows : Layout → History → ℕ → Type 0) (one two : SeatedPass → SeatedPass → Type 0) (v w : SeatView) (p : SeatedPass) → v.passes ≡ p ∷ [] → ((q : SeatedPass) → HasGoneOnResting allows p q → one p q → two p q) → RestsOn allows one v w → RestsOn allows two v w
+known_as allows one two v w p alone to x = let y = from_pass allows one v w p alone x in record { pass = p; later = x.later; was = alone; is = x.is; goes_on = y.0; holds = to x.later y.0 y.1 }
+
 -- what a look tells, is known of the slot
 pub as_known : (allows : Layout → History → ℕ → Type 0) (t : Lasting) (kind : RecordKind) (slot : ℕ) (x : OwnSlot) (v w : SeatView) (so : SeatedPass → SeatedPass → Type 0) (p : SeatedPass) → v.passes ≡ p ∷ [] → ((q : SeatedPass) → HasGoneOnResting allows p q → so p q → KnowsNow t kind slot x p q) → RestsOn allows so v w → RestsOn allows (KnowsNow t kind slot x) v w
 as_known allows t kind slot x v w so p one to y = let on = from_pass allows so v w p one y in record { pass = p; later = y.later; was = one; is = y.is; goes_on = on.0; holds = to y.later on.0 on.1 }

@@ -64,11 +64,11 @@ slot_kept t q r number planting Is spares kind slot apart since later on x so =
     (subst (λ (k : PassNo). IsKnownSo t q.planting k.0 r.memory later kind slot x.name x.known) (sym number)
     (known_kept t q.planting q.number.0 q.memory r.memory Is spares since later on kind slot x.name apart x.known so))
 
-is_of_kind : (kind : RecordKind) (n : ℕ) → IsOfKind kind (record_numbered kind n)
+pub is_of_kind : (kind : RecordKind) (n : ℕ) → IsOfKind kind (record_numbered kind n)
 is_of_kind Node n = tt
 is_of_kind Scx n = tt
 
-other_kind : (kind other : RecordKind) (n : ℕ) → other ≢ kind → ¬ IsOfKind kind (record_numbered other n)
+pub other_kind : (kind other : RecordKind) (n : ℕ) → other ≢ kind → ¬ IsOfKind kind (record_numbered other n)
 other_kind Node Node n d x = d refl
 other_kind Node Scx n d x = x
 other_kind Scx Node n d x = x

@@ -46,4 +46,5 @@ pub mod Ruled
 pub mod UpkeepSteps
 pub mod UpkeepPeriod
 pub mod UpkeepBook
+pub mod UpkeepDeals
 pub mod UpkeepKeeper

@@ -1,5 +1,5 @@
 //! What a pass knows of its own slots.
-ghost use Rattle.std.specs.Prelude.{◌+◌, ◌^◌, ◌≤◌, vec_len};
+ghost use Rattle.std.specs.Prelude.{◌+◌, ◌^◌, ◌<◌, ◌≤◌, vec_len};
 
 use crate::upkeep::kind::RecordKind;
 
@@ -37,5 +37,7 @@ pub(crate) struct OwnSlots {
     /// Its names below this one are dealt, or passed over.
     pub(crate) dealt: u64,
     pub(crate) slots: Vec<OwnSlot>,
-    ghost fits: { first + vec_len slots ≤ 2 ^ 63 },
+    ghost fits: { first + vec_len slots ≤ 2 ^ 33 },
+    ghost turns: { (0 < turn) × (turn ≤ 2 ^ 61) },
+    ghost ends: { (dealt ≤ end) × (end ≤ 2 ^ 61) },
 }
