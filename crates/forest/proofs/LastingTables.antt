@@ -1,5 +1,5 @@
 -- A table whose records come back: that its names fit, and that each of their words has a place.
-use Rattle.std.proofs.Common.{◌≡◌, ◌<◌, ◌≤◌, ◌+◌, ◌-◌, ◌*◌, ◌%◌, ◌^◌, ◌∙◌, ℕ, true, Option, Some, refl, sym, ap, subst, arith, min}
+use Rattle.std.proofs.Common.{◌≡◌, ◌<◌, ◌≤◌, ◌⊎◌, ◌+◌, ◌-◌, ◌*◌, ◌%◌, ◌^◌, ℕ, true, Option, Some, inl, inr, refl, sym, subst, arith, min}
 use Rattle.std.proofs.Math.Nat.{le-mul_of_pos_right, min-eq_left, mod-lt}
 use Rattle.std.proofs.Math.Pow.{pow_mono}
 use Rattle.std.proofs.lemmas.Nat.{leading_length, pow-add, pow_pos}
@@ -11,8 +11,12 @@ use Rattle.arena.specs.Words.{IsScxWord, node_place, scx_place}
 use Rattle.arena.specs.declared.limits.Mode.TheVariants.{Tree, Trie, Records}
 use Rattle.arena.specs.declared.word.NodeWord.{NodeWord}
 use Rattle.arena.specs.declared.word.ScxWord.{ScxWord}
-use Rattle.histories.specs.Common.{Lawful, Layout, Mode, Opened, Opening, Word, Node, Scx, IsWord, all_nodes, all_scx, first_node, first_scx}
+use Rattle.histories.specs.Common.{History, IsRun, Lawful, Layout, Mode, Opened, Shaped, Opening, Word, Node, Scx, IsWord, all_nodes, all_scx, first_node, first_scx}
 use Rattle.arena.specs.Share.{whole_share}
+use Rattle.arena.specs.Openings.{empty}
+use Rattle.ordered_map.proofs.Lemmas.{none_edited}
+use Rattle.ordered_map.specs.Planted.{IsPlanted}
+use Rattle.dict.specs.Typed.{TypedAllows}
 use Rattle.prims.proofs.Lemmas.{none_taken, whole_untouched}
 use Rattle.prims.specs.Shares.{IsShare, share_end}
 use Rattle.slots.specs.Lasting.{IsLasting, Lasting, table_place}
@@ -25,13 +29,13 @@ use Rattle.forest.specs.declared.rule.Site.{Site}
 use Rattle.forest.specs.declared.rule.Turns.{Turns}
 use Rattle.forest.specs.declared.table_plan.TablePlan.{TablePlan}
 
--- the digits of a number tell those below it apart
-pub bits_enough : (count : ℕ) → count < 2 ^ 29 → (count ≤ 2 ^ (32 - count_leading_zeros 32 count)) × (32 - count_leading_zeros 32 count ≤ 29)
+-- the digits of a number tell those below it apart, and one digit fewer does not
+pub bits_enough : (count : ℕ) → count < 2 ^ 29 → (let bits : ℕ = 32 - count_leading_zeros 32 count in (count ≤ 2 ^ bits) × (2 ^ bits ≤ 2 * count + 1) × (bits ≤ 29))
 bits_enough count few =
     let t = leading_length 29 count few in
     let same : 32 - t.0 ≡ count_leading_zeros 32 count = leading_unique 32 count (32 - t.0) t.0 (omega (arith, t.1)) t.2 t.3 in
     let bits : 32 - count_leading_zeros 32 count ≡ t.0 = omega (arith, same, t.1) in
-    (rw bits (omega (arith, t.2)), omega (arith, bits, t.1))
+    (rw bits (omega (arith, t.2)), rw bits t.3, omega (arith, bits, t.1))
 
 -- that many laps of the wider turns, or of others, are numbers that fit
 laps_fit : (a m : ℕ) → a ≤ m → m ≤ 29 → 2 ^ (49 - m) * 2 ^ a ≤ 2 ^ 49
@@ -98,11 +102,11 @@ inside_turns lay t words room (Scx s part) i =
     omega (arith, turn, within, enough)
 
 -- So the words lie as a plan says that has the masks of these bits.
-pub turned_table : (id : TableId) (site : Site) (t : Turns) → site.turns ≡ Some t → HasRoom site.layout t id.words → IsTableOf site.layout.mode true id site record { layout = site.layout; node_mask = 2 ^ t.node_bits - 1; scx_mask = 2 ^ t.scx_bits - 1 }
-turned_table id site t turns room = record {
+pub turned_table : (id : TableId) (site : Site) (t : Turns) → site.turns ≡ Some t → t.node_bits ≤ 26 → HasRoom site.layout t id.words → IsTableOf site.layout.mode true id site record { layout = site.layout; node_mask = 2 ^ t.node_bits - 1; scx_mask = 2 ^ t.scx_bits - 1 }
+turned_table id site t turns low room = record {
   mode_is = refl;
   layout = refl;
-  masks = subst (λ (o : Option Turns). HasMasks true o plan) (sym turns) (refl, refl);
+  masks = subst (λ (o : Option Turns). HasMasks true o plan) (sym turns) (low, refl, refl);
   inside = subst (λ (o : Option Turns). (w : Word) → IsWord (slots_by site.layout o).lay w → table_place (slots_by site.layout o) w < id.words) (sym turns) (inside_turns site.layout t id.words room);
   few = room.few;
 }
@@ -135,3 +139,31 @@ begins_in_turns lay t o c few may lawful = record {
 pub ends_as_dealt : (t : Lasting) (c : ℕ) → EndsAsDealt (first_share t c) (first_memory t c)
 unfolding share_end
 ends_as_dealt t c = refl
+
+-- What is planted in a table has the same shape over the layout of its names: that is of the table's
+-- mode, with as many planted nodes.
+planted_in_turns : (lay : Layout) (t : Turns) (h : History) (s : ℕ) → IsPlanted lay h s → IsPlanted (in_turns lay t).lay h s
+planted_in_turns lay t h s x = record {
+  dummy = x.dummy;
+  tree = x.tree;
+  is_tree = x.is_tree;
+  items = x.items;
+  ends_low = x.ends_low;
+  whole = x.whole;
+  there = x.there;
+  root = x.root;
+  last = x.last;
+  right = x.right;
+  blank = x.blank;
+  deep = x.deep;
+  forks = x.forks;
+}
+
+pub opening_in_turns : (keys values : ℕ → Type 0) (lay : Layout) (t : Turns) (o : Opening) → IsRun (TypedAllows keys values) lay (Opened o) → IsRun (TypedAllows keys values) (in_turns lay t).lay (Opened o)
+unfolding Lawful Shaped
+opening_in_turns keys values lay t o run = record { lawful = run.lawful; shaped = go run.shaped }
+  where
+    go : (o ≡ empty o.mode) ⊎ TypedAllows keys values lay (Opened o) 0 → (o ≡ empty o.mode) ⊎ TypedAllows keys values (in_turns lay t).lay (Opened o) 0
+    go (inl e) = inl e
+    go (inr (inl x)) = absurd (none_edited lay o x.0 x.1)
+    go (inr (inr x)) = inr (inr (planted_in_turns lay t (Opened o) 0 x.0, x.1))

@@ -1,5 +1,5 @@
 //! Dictionaries whose records come back.
-ghost use Rattle.std.specs.Prelude.{◌≡◌, ◌<◌, ℕ, [], IfOk};
+ghost use Rattle.std.specs.Prelude.{◌≡◌, ◌<◌, ◌≤◌, ℕ, [], IfOk};
 ghost use Rattle.arena.specs.History.{Opened};
 ghost use Rattle.arena.specs.Layout.{IsMap};
 ghost use Rattle.arena.specs.Machines.{IsRun};
@@ -78,10 +78,11 @@ impl<K: WordKey, V: WordValue, B: FixedBalance> Forest<Dict<K, V, Lasts<B>>> {
         requires mode { plot.layout.mode ≡ map_mode (B.trie B.the) }
         requires few { HasFewNames plot.layout }
         requires may { MayTurn plot.layout turns }
+        requires low { turns.node_bits ≤ 26 }
         requires some { (0 < plot.layout.passes) × (0 < tries) }
         requires planting { plot.planting.mode ≡ plot.layout.mode }
         requires run { IsRun (TypedAllows (IsWordOf K.is_valid K.word_of) (IsWordOf V.is_valid V.word_of))
-            (in_turns plot.layout turns).lay (Opened (opening_for plot.planting)) }
+            plot.layout (Opened (opening_for plot.planting)) }
         ensures layout { IfOk result (λ r. (r.0.layout ≡ (in_turns plot.layout turns).lay)
             × (r.0.tries ≡ tries)) }
         ensures planting { IfOk result (λ r. r.0.planting ≡ plot.planting) }
@@ -128,7 +129,8 @@ fn pass_all<S: TableShape>(
     let mut passes = Vec::new(alloc);
     for number in 0..layout.passes {
         let own = words.deal(&mut seat);
-        passes.push(Pass::in_turns(alloc, layout, turns, PassNo(number), own)?)?;
+        let pass = Pass::in_turns(alloc, layout, turns, PassNo(number), own)?;
+        passes.push(pass)?;
     }
     Ok(passes)
 }
