@@ -16,7 +16,7 @@ use Rattle.forest.specs.LastingSlots.{slot_number}
 use Rattle.forest.specs.Passes.{Each}
 use Rattle.forest.specs.TableRule.{ByOthers, history_of, past_of, seated_pass}
 use Rattle.forest.specs.UpkeepBook.{count_own, dealt_of, first_own, numbered}
-use Rattle.forest.specs.UpkeepSteps.{HasGoneOnResting}
+use Rattle.forest.specs.UpkeepSteps.{HasGoneOnResting, RestsOn}
 use Rattle.forest.specs.UpkeepDeals.{DealsOn, HasGoneOnDealing, HasLeft, HasPassedTo, IsOfNoCall, MayGet, ahead, memory_given, next_of, past_names, with_left}
 use Rattle.forest.specs.declared.memory.PassMemory.{PassMemory}
 use Rattle.forest.specs.declared.memory.RecordNo.{RecordNo}
@@ -91,11 +91,11 @@ name_below : (kind : RecordKind) (t : Lasting) (o : ℕ) (m : PassMemory) (count
 name_below Node t o m count own = own.0.below
 name_below Scx t o m count own = own.0.below
 
-next_is : (kind : RecordKind) (left : Remaining) (next count : ℕ) → next_of kind (with_left kind left next count) ≡ next
+pub next_is : (kind : RecordKind) (left : Remaining) (next count : ℕ) → next_of kind (with_left kind left next count) ≡ next
 next_is Node left next count = refl
 next_is Scx left next count = refl
 
-left_again : (kind : RecordKind) (left : Remaining) (n c k d : ℕ) → with_left kind (with_left kind left n c) k d ≡ with_left kind left k d
+pub left_again : (kind : RecordKind) (left : Remaining) (n c k d : ℕ) → with_left kind (with_left kind left n c) k d ≡ with_left kind left k d
 left_again Node left n c k d = refl
 left_again Scx left n c k d = refl
 
@@ -203,4 +203,35 @@ left_as allows p left kind next count same few has = record {
   there = has.there;
   share = share_as p.layout (past_of p []) p.number.0 left kind next count same few has.share;
   over = has.over;
+}
+
+-- One after the other
+
+no_calls_of : (o : ℕ) (rows : List Row) (k : ℕ) → k ≡ o → Each (IsOfNoCall k) rows → Each (IsOfNoCall o) rows
+no_calls_of o rows k e = subst (λ n. Each (IsOfNoCall n) rows) e
+
+deals_further : (p q r : SeatedPass) → HasGoneOnDealing p q → HasGoneOnDealing q r → HasGoneOnDealing p r
+deals_further p q r x y = record {
+  number = y.number ∙ x.number;
+  layout = y.layout ∙ x.layout;
+  planting = y.planting ∙ x.planting;
+  more = y.more ++ x.more;
+  of_no_call = each_of_both (IsOfNoCall p.number.0) y.more x.more (no_calls_of p.number.0 y.more q.number.0 (ap (λ (n : PassNo). n.0) x.number) y.of_no_call) x.of_no_call;
+  known = y.known ∙ ap (λ l. y.more ++ l) x.known ∙ sym (append_assoc y.more x.more p.known);
+}
+
+pub deals_on : (one two both : SeatedPass → SeatedPass → Type 0) (u v w : SeatView) → ((p q r : SeatedPass) → one p q → two q r → both p r) → DealsOn one u v → DealsOn two v w → DealsOn both u w
+deals_on one two both u v w join x y =
+    let z : HasGoneOnDealing x.later y.later × two x.later y.later = subst (λ (k : SeatedPass). HasGoneOnDealing k y.later × two k y.later) (same_pass v.passes x.later y.pass x.is y.was) (y.goes_on, y.holds) in
+    record { pass = x.pass; later = y.later; was = x.was; is = y.is; goes_on = deals_further x.pass x.later y.later x.goes_on z.0; holds = join x.pass x.later y.later x.holds z.1 }
+
+-- a pass that has only looked has passed over no names
+pub rests_deal : (allows : Layout → History → ℕ → Type 0) (so : SeatedPass → SeatedPass → Type 0) (v w : SeatView) → RestsOn allows so v w → DealsOn so v w
+rests_deal allows so v w x = record {
+  pass = x.pass;
+  later = x.later;
+  was = x.was;
+  is = x.is;
+  goes_on = record { number = x.goes_on.number; layout = x.goes_on.layout; planting = x.goes_on.planting; more = x.goes_on.others; of_no_call = each_by_others x.pass.number.0 x.goes_on.others x.goes_on.by_others; known = x.goes_on.known };
+  holds = x.holds;
 }

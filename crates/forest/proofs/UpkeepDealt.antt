@@ -2,6 +2,7 @@
 use Rattle.std.proofs.Common.{◌≡◌, ◌≢◌, ◌<◌, ◌≤◌, ◌+◌, ◌-◌, ◌%◌, ℕ, zero, suc, List, [], ◌∷◌, Option, Some, None, length, slice_get, set, inl, inr, refl, sym, ◌∙◌, ap, subst, arith}
 use Rattle.std.proofs.lemmas.List.{length-set}
 use native.Mathlib.Decide.{ℕ_discrete}
+use Rattle.atomic_table.specs.declared.shared.Seat.{Seat}
 use Rattle.arena.proofs.Lemmas.{ends_self}
 use Rattle.arena.specs.declared.number.PassNo.{PassNo}
 use Rattle.histories.specs.Common.{History, Layout, Remaining, Row}
@@ -13,9 +14,10 @@ use Rattle.forest.specs.LastingMemory.{record_at}
 use Rattle.forest.specs.LastingNotes.{IsAmongThese}
 use Rattle.forest.specs.LastingSlots.{IsLastDealt, IsNotBefore, memory_given_back, slot_number}
 use Rattle.forest.specs.TableRule.{history_of, past_of}
-use Rattle.forest.specs.UpkeepBook.{AreAllOwn, HasFreed, IsBook, IsCleanSlot, IsKnownSo, IsNameIn, IsOfKind, IsSlotSo, KeepsRests, SparesOthers, count_own, dealt_of, first_own, numbered, record_numbered, turn_of}
-use Rattle.forest.specs.UpkeepSteps.{HasGoneOnResting}
-use Rattle.forest.specs.UpkeepDeals.{AreSlotsStill, HasDealt, HasLeft, HasNameFor, IsFreeAt, IsNameAt, KeepsPolls, MayGet, ahead, memory_given, next_of, with_left}
+use Rattle.forest.specs.UpkeepBook.{AreAllOwn, HasFreed, IsAtLasting, IsBook, IsCleanSlot, IsKnownSo, IsNameIn, IsOfKind, IsSlotSo, KeepsRests, SparesOthers, count_own, dealt_of, first_own, numbered, record_numbered, slots_in, turn_of}
+use Rattle.forest.specs.Seats.{StaysAtTable}
+use Rattle.forest.specs.UpkeepSteps.{HasGoneOnResting, RestsOn}
+use Rattle.forest.specs.UpkeepDeals.{AreSlotsStill, DealsOn, HasDealt, HasGoneOnDealing, HasLeft, HasNameFor, IsFreeAt, IsNameAt, KeepsPolls, MayGet, ahead, memory_given, next_of, with_left}
 use Rattle.forest.specs.declared.memory.PassMemory.{PassMemory}
 use Rattle.forest.specs.declared.memory.RecordNo.{RecordNo}
 use Rattle.forest.specs.declared.upkeep.book.Known.{Known}
@@ -25,9 +27,14 @@ use Rattle.forest.specs.declared.upkeep.book.OwnSlots.{OwnSlots}
 use Rattle.forest.specs.declared.upkeep.kind.RecordKind.{RecordKind}
 use Rattle.forest.specs.declared.upkeep.kind.RecordKind.TheVariants.{Node, Scx}
 use Rattle.forest.specs.declared.view.SeatedPass.{SeatedPass}
+use Rattle.forest.specs.declared.view.SeatView.{SeatView}
+use Rattle.forest.specs.declared.words.Words.{Words}
 use Rattle.forest.proofs.UpkeepBook.{among_others, slot_record, spares_more, spares_on}
-use Rattle.forest.proofs.UpkeepDeals.{left_as, left_on}
-use Rattle.forest.proofs.UpkeepSteps.{rests_on}
+use Rattle.forest.proofs.UpkeepDeals.{deals_on, left_again, left_as, left_on, next_is}
+use Rattle.forest.proofs.Ruled.{same_pass}
+use Rattle.forest.proofs.UpkeepLooks.{at_now}
+use Rattle.forest.proofs.UpkeepSteps.{rests_on, seat_on}
+use Rattle.forest.proofs.UpkeepTurn.{from_pass}
 use Rattle.forest.proofs.UpkeepTurns.{is_of_kind, numbered_apart, other_book, set_at, set_beside, slot_kept}
 
 -- Before
@@ -207,13 +214,13 @@ is_left Node left name less = less
 is_left Scx left name less = less
 
 back_spares : (t : Lasting) (kind : RecordKind) (m : PassMemory) (name : ℕ) (slot : Record) → slot_of t (record_numbered kind name) ≡ slot → SparesOthers t (λ r. r ≡ slot) m (memory_given_back t m (numbered kind name))
-back_spares t Node m name slot is = record {
+back_spares t Node m name s is = record {
   notes = λ x i. i;
   holds = λ x i d. among_others record_at (record_numbered Node name) x m.holds i (λ e. d (ap (slot_of t) e ∙ is));
   empty = λ x i d. inr i;
   zeros = λ w i d. i;
 }
-back_spares t Scx m name slot is = record {
+back_spares t Scx m name s is = record {
   notes = λ x i. i;
   holds = λ x i d. among_others record_at (record_numbered Scx name) x m.holds i (λ e. d (ap (slot_of t) e ∙ is));
   empty = λ x i d. inr i;
@@ -317,3 +324,68 @@ dealt_not allows t own next p since book layout less ends = record {
   where
     few : next + (own.dealt - next) ≤ first_own own.kind p.layout p.number.0 + count_own own.kind p.layout
     few = subst (λ (l : Layout). next + (own.dealt - next) ≤ first_own own.kind l p.number.0 + count_own own.kind l) (sym layout) (let end = book.all.end in omega (arith, end, less, ends))
+
+-- One after the other
+
+-- what is dealt then, is dealt from the same slots
+pub dealt_on : (allows : Layout → History → ℕ → Type 0) (t : Lasting) (old mid new : OwnSlots) (a b c : ℕ) (p q r : SeatedPass) → mid.kind ≡ old.kind → HasDealt allows t old mid a b p q → HasDealt allows t mid new b c q r → HasDealt allows t old new a c p r
+dealt_on allows t old mid new a b c p q r same x y = record {
+  keeps = record {
+    away = y.keeps.away ∙ x.keeps.away;
+    often = y.keeps.often ∙ x.keeps.often;
+    polls = y.keeps.polls ∙ x.keeps.polls;
+    others = λ other d. y.keeps.others other (λ e. d (e ∙ same)) ∙ x.keeps.others other d;
+  };
+  book = λ since book. y.book since (x.book since book);
+  others = λ other since d book. y.others other since (λ e. d (e ∙ same)) (x.others other since d book);
+  left = λ left has is. subst (λ (l : Remaining). HasLeft allows r l) (left_again old.kind left b (mid.dealt - b) c (new.dealt - c))
+      (subst (λ (k : RecordKind). HasLeft allows r (with_left k (with_left old.kind left b (mid.dealt - b)) c (new.dealt - c))) same
+      (y.left (with_left old.kind left b (mid.dealt - b)) (x.left left has is) (ap (λ (k : RecordKind). next_of k (with_left old.kind left b (mid.dealt - b))) same ∙ next_is old.kind left b (mid.dealt - b))));
+}
+
+-- so it is of the one pass of a seat
+pub seat_dealt : (allows : Layout → History → ℕ → Type 0) (t : Lasting) (old mid new : OwnSlots) (a b c : ℕ) (u v w : SeatView) → AreSlotsStill old mid → RestsOn allows (HasDealt allows t old mid a b) u v → RestsOn allows (HasDealt allows t mid new b c) v w → RestsOn allows (HasDealt allows t old new a c) u w
+seat_dealt allows t old mid new a b c u v w still x y = seat_on allows (HasDealt allows t old mid a b) (HasDealt allows t mid new b c) (HasDealt allows t old new a c) u v w (λ p q r. dealt_on allows t old mid new a b c p q r still.kind) x y
+
+pub still_on : (a b c : OwnSlots) → AreSlotsStill a b → AreSlotsStill b c → AreSlotsStill a c
+still_on a b c x y = record { kind = y.kind ∙ x.kind; first = y.first ∙ x.first; turn = y.turn ∙ x.turn; end = y.end ∙ x.end; count = y.count ∙ x.count }
+
+pub still_same : (a : OwnSlots) → AreSlotsStill a a
+still_same a = record { kind = refl; first = refl; turn = refl; end = refl; count = refl }
+
+-- what the pass has then, and what is known of its slots
+module _ {S : Type 0} (allows : Layout → History → ℕ → Type 0) (words : Words S) (lay : Layout) (u v : Seat ℕ SeatView) (old own : OwnSlots) (next to : ℕ) (p : SeatedPass) (left : Remaining) (since : List Row) (here : IsAtLasting words lay u p) (has : HasLeft allows p left) (is : next_of old.kind left ≡ next) (book : IsBook (slots_in words) p since old) (stays : StaysAtTable u v) (still : AreSlotsStill old own) where
+  abbrev AsksNow : Type 0
+  AsksNow = (x : SeatedPass) × (x' : Remaining) × (x'' : List Row) × IsAtLasting words lay v x × HasLeft allows x x' × (next_of own.kind x' ≡ to) × IsBook (slots_in words) x x'' own
+
+  pub pass_now : RestsOn allows (HasDealt allows (slots_in words) old own next to) u.me.0 v.me.0 → AsksNow
+  pass_now so = let on = from_pass allows (HasDealt allows (slots_in words) old own next to) u.me.0 v.me.0 p here.alone so in (
+    so.later,
+    with_left old.kind left to (own.dealt - to),
+    since,
+    at_now words lay allows (HasDealt allows (slots_in words) old own next to) u v p here stays so,
+    on.1.left left has is,
+    ap (λ (k : RecordKind). next_of k (with_left old.kind left to (own.dealt - to))) still.kind ∙ next_is old.kind left to (own.dealt - to),
+    on.1.book since book,
+  )
+
+  pub pass_dealt : DealsOn (HasDealt allows (slots_in words) old own next to) u.me.0 v.me.0 → AsksNow
+  pass_dealt so =
+      let on : HasGoneOnDealing p so.later × HasDealt allows (slots_in words) old own next to p so.later = subst (λ (k : SeatedPass). HasGoneOnDealing k so.later × HasDealt allows (slots_in words) old own next to k so.later) (same_pass u.me.0.passes p so.pass here.alone so.was) (so.goes_on, so.holds) in (
+        so.later,
+        with_left old.kind left to (own.dealt - to),
+        since,
+        record {
+          table = (here.table.0, stays.0 ∙ here.table.1);
+          alone = so.is;
+          names = on.0.layout ∙ here.names;
+          is_pass = subst (λ (k : PassNo). k.0 < lay.passes) (sym on.0.number) here.is_pass;
+        },
+        on.1.left left has is,
+        ap (λ (k : RecordKind). next_of k (with_left old.kind left to (own.dealt - to))) still.kind ∙ next_is old.kind left to (own.dealt - to),
+        on.1.book since book,
+      )
+
+-- names are dealt, and then more
+pub deals_more : (allows : Layout → History → ℕ → Type 0) (t : Lasting) (old mid new : OwnSlots) (a b c : ℕ) (u v w : SeatView) → AreSlotsStill old mid → DealsOn (HasDealt allows t old mid a b) u v → DealsOn (HasDealt allows t mid new b c) v w → DealsOn (HasDealt allows t old new a c) u w
+deals_more allows t old mid new a b c u v w still x y = deals_on (HasDealt allows t old mid a b) (HasDealt allows t mid new b c) (HasDealt allows t old new a c) u v w (λ p q r. dealt_on allows t old mid new a b c p q r still.kind) x y

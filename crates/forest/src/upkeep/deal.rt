@@ -1,5 +1,5 @@
 //! How free slots of a pass get names, so many in a row, which its share then gives.
-ghost use Rattle.std.specs.Prelude.{◌≡◌, ◌+◌, ◌<◌, ◌≤◌, List, IfSome, IsTrue, length, set};
+ghost use Rattle.std.specs.Prelude.{◌≡◌, ◌+◌, ◌-◌, ◌<◌, ◌≤◌, List, IfSome, IsTrue, length, set};
 ghost use Rattle.arena.specs.Share.{Remaining};
 ghost use Rattle.arena.specs.declared.step.Row.{Row};
 ghost use Rattle.forest.specs.Seats.{IsSameSeat};
@@ -227,4 +227,182 @@ fn free_last<S: Shape>(
     give_back(words, layout, seat, at, last);
     clean(words, layout, seat, own.kind, slot);
     own.take_from(i, name);
+}
+
+/// Gives back the names that are dealt from `next` on, which nobody has taken.
+fn take_back_to<S: Shape>(
+    words: &Words<S>,
+    layout: &Layout,
+    seat: &mut Seat<u8, SeatView>,
+    own: &mut OwnSlots,
+    next: u64,
+)
+    requires next { next ≤ own.old.dealt }
+    requires pass { (p : SeatedPass) × (left : Remaining) × (since : List Row)
+        × IsAtLasting words.now layout.now seat.old p × HasLeft S.allows p left
+        × (next_of own.old.kind left ≡ next) × IsBook (slots_in words.now) p since own.old }
+    ensures table { StaysAtTable seat.old seat.new }
+    ensures still { AreSlotsStill own.old own.new }
+    ensures more { (next ≤ own.new.dealt) × (own.new.dealt ≤ own.old.dealt) }
+    ensures given { RestsOn S.allows
+        (HasDealt S.allows (slots_in words.now) own.old own.new next next)
+        seat.old.me.0 seat.new.me.0 }
+{
+    while next < own.dealt {
+        if !take_back(words, layout, seat, own, next) {
+            return;
+        }
+    }
+}
+
+/// Gives names to free slots from this one on, as long as no name is passed over by that. Those
+/// from `next` on are left.
+fn put_more<S: Shape>(
+    words: &Words<S>,
+    layout: &Layout,
+    seat: &mut Seat<u8, SeatView>,
+    own: &mut OwnSlots,
+    from: usize,
+    next: u64,
+)
+    requires inside { from ≤ length own.old.slots.items }
+    requires next { next ≤ own.old.dealt }
+    requires pass { (p : SeatedPass) × (left : Remaining) × (since : List Row)
+        × IsAtLasting words.now layout.now seat.old p × HasLeft S.allows p left
+        × (next_of own.old.kind left ≡ next) × IsBook (slots_in words.now) p since own.old }
+    ensures table { StaysAtTable seat.old seat.new }
+    ensures still { AreSlotsStill own.old own.new }
+    ensures more { own.old.dealt ≤ own.new.dealt }
+    ensures few { own.new.dealt ≤ own.old.dealt + (length own.old.slots.items - from) }
+    ensures given { RestsOn S.allows
+        (HasDealt S.allows (slots_in words.now) own.old own.new next next)
+        seat.old.me.0 seat.new.me.0 }
+{
+    for i in from..own.slots.len() {
+        match own.names_before(i) {
+            Some(0) if own.is_free(i) => put_next(words, layout, seat, own, i, next),
+            _ => return,
+        }
+    }
+}
+
+/// Slots that are free, one behind the other.
+#[derive(Clone, Copy)]
+struct Run {
+    start: usize,
+    count: usize,
+}
+
+impl OwnSlots {
+    /// The slot of the name behind those that are dealt, or the first if it is none of these.
+    fn hand(&self) -> usize
+        ensures { result ≤ length self.now.slots.items }
+    {
+        let slot = self.dealt % self.turn;
+        match slot.checked_sub(self.first) {
+            Some(i) if i < self.slots.len() as u64 => i as usize,
+            _ => 0,
+        }
+    }
+
+    /// The first run of three free slots between these two, or the longest that there is.
+    fn run_between(&self, from: usize, to: usize) -> Run
+        requires { to ≤ length self.now.slots.items }
+        ensures { 0 < result.count → result.start < length self.now.slots.items }
+    {
+        let mut best = Run {
+            start: from,
+            count: 0,
+        };
+        let mut start = from;
+        for i in from..to {
+            if !self.is_free(i) {
+                start = i + 1;
+            } else if best.count < 3 && best.count < i + 1 - start {
+                best = Run {
+                    start,
+                    count: i + 1 - start,
+                };
+            }
+        }
+        best
+    }
+
+    /// Where the next run of free slots begins: the first of three behind the hand, or before it,
+    /// or else the longest.
+    fn next_run(&self) -> Option<usize>
+        ensures { IfSome result (λ i. i < length self.now.slots.items) }
+    {
+        let hand = self.hand();
+        let behind = self.run_between(hand, self.slots.len());
+        let before = self.run_between(0, hand);
+        let run = if behind.count < 3 && behind.count < before.count {
+            before
+        } else {
+            behind
+        };
+        (0 < run.count).then_some(run.start)
+    }
+}
+
+/// Gives names to free slots from this one on, and answers the first. All that were dealt are
+/// taken.
+fn put_run<S: Shape>(
+    words: &Words<S>,
+    layout: &Layout,
+    seat: &mut Seat<u8, SeatView>,
+    own: &mut OwnSlots,
+    i: usize,
+) -> u64
+    requires slot { IsFreeAt own.old i }
+    requires pass { (p : SeatedPass) × (left : Remaining) × (since : List Row)
+        × IsAtLasting words.now layout.now seat.old p × HasLeft S.allows p left
+        × (next_of own.old.kind left ≡ own.old.dealt) × IsBook (slots_in words.now) p since own.old }
+    ensures table { StaysAtTable seat.old seat.new }
+    ensures still { AreSlotsStill own.old own.new }
+    ensures few { (result ≤ own.new.dealt) × (own.new.dealt ≤ result + length own.old.slots.items) }
+    ensures given { DealsOn
+        (HasDealt S.allows (slots_in words.now) own.old own.new own.old.dealt result)
+        seat.old.me.0 seat.new.me.0 }
+{
+    match own.names_before(i) {
+        Some(count) => {
+            let next = own.dealt + count;
+            put_first(words, layout, seat, own, i, count);
+            put_more(words, layout, seat, own, i + 1, next);
+            next
+        }
+        None => own.dealt,
+    }
+}
+
+/// Deals names to free slots, so many in a row, and answers the first: from there on all that are
+/// dealt are left. Those from `next` on that were left are given back first. It makes up to 60
+/// steps, and one for each name.
+pub(crate) fn deal<S: Shape>(
+    words: &Words<S>,
+    layout: &Layout,
+    seat: &mut Seat<u8, SeatView>,
+    own: &mut OwnSlots,
+    next: u64,
+) -> u64
+    requires next { next ≤ own.old.dealt }
+    requires few { own.old.dealt ≤ next + length own.old.slots.items }
+    requires pass { (p : SeatedPass) × (left : Remaining) × (since : List Row)
+        × IsAtLasting words.now layout.now seat.old p × HasLeft S.allows p left
+        × (next_of own.old.kind left ≡ next) × IsBook (slots_in words.now) p since own.old }
+    ensures table { StaysAtTable seat.old seat.new }
+    ensures still { AreSlotsStill own.old own.new }
+    ensures few { (result ≤ own.new.dealt) × (own.new.dealt ≤ result + length own.old.slots.items) }
+    ensures given { DealsOn (HasDealt S.allows (slots_in words.now) own.old own.new next result)
+        seat.old.me.0 seat.new.me.0 }
+{
+    take_back_to(words, layout, seat, own, next);
+    if next < own.dealt {
+        return next;
+    }
+    match own.next_run() {
+        Some(i) if own.is_free(i) => put_run(words, layout, seat, own, i),
+        _ => next,
+    }
 }
