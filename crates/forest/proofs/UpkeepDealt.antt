@@ -15,7 +15,7 @@ use Rattle.forest.specs.LastingNotes.{IsAmongThese}
 use Rattle.forest.specs.LastingSlots.{IsLastDealt, IsNotBefore, memory_given_back, slot_number}
 use Rattle.forest.specs.TableRule.{history_of, past_of}
 use Rattle.forest.specs.UpkeepBook.{AreAllOwn, HasFreed, IsAtLasting, IsBook, IsCleanSlot, IsKnownSo, IsNameIn, IsOfKind, IsSlotSo, KeepsRests, SparesOthers, count_own, dealt_of, first_own, numbered, record_numbered, slots_in, turn_of}
-use Rattle.forest.specs.Seats.{StaysAtTable}
+use Rattle.forest.specs.Seats.{IsSameSeat}
 use Rattle.forest.specs.UpkeepSteps.{HasGoneOnResting, RestsOn}
 use Rattle.forest.specs.UpkeepDeals.{AreSlotsStill, DealsOn, HasDealt, HasGoneOnDealing, HasLeft, HasNameFor, IsFreeAt, IsNameAt, KeepsPolls, MayGet, ahead, memory_given, next_of, with_left}
 use Rattle.forest.specs.declared.memory.PassMemory.{PassMemory}
@@ -354,7 +354,7 @@ pub still_same : (a : OwnSlots) → AreSlotsStill a a
 still_same a = record { kind = refl; first = refl; turn = refl; end = refl; count = refl }
 
 -- what the pass has then, and what is known of its slots
-module _ {S : Type 0} (allows : Layout → History → ℕ → Type 0) (words : Words S) (lay : Layout) (u v : Seat ℕ SeatView) (old own : OwnSlots) (next to : ℕ) (p : SeatedPass) (left : Remaining) (since : List Row) (here : IsAtLasting words lay u p) (has : HasLeft allows p left) (is : next_of old.kind left ≡ next) (book : IsBook (slots_in words) p since old) (stays : StaysAtTable u v) (still : AreSlotsStill old own) where
+module _ {S : Type 0} (allows : Layout → History → ℕ → Type 0) (words : Words S) (lay : Layout) (u v : Seat ℕ SeatView) (old own : OwnSlots) (next to : ℕ) (p : SeatedPass) (left : Remaining) (since : List Row) (here : IsAtLasting words lay u p) (has : HasLeft allows p left) (is : next_of old.kind left ≡ next) (book : IsBook (slots_in words) p since old) (stays : IsSameSeat u v) (still : AreSlotsStill old own) where
   abbrev AsksNow : Type 0
   AsksNow = (x : SeatedPass) × (x' : Remaining) × (x'' : List Row) × IsAtLasting words lay v x × HasLeft allows x x' × (next_of own.kind x' ≡ to) × IsBook (slots_in words) x x'' own
 

@@ -17,9 +17,9 @@ use std::marker::Brand;
 
 pub(crate) mod book;
 pub(crate) mod clean;
+pub(crate) mod deal;
 pub(crate) mod keeper;
 pub(crate) mod kept;
-pub(crate) mod deal;
 pub(crate) mod kind;
 pub(crate) mod looks;
 pub(crate) mod names;

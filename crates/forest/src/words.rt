@@ -21,9 +21,7 @@ ghost use Rattle.forest.specs.TableRule.{MayStep, Made, Looked, look, new_passes
 
 use crate::lasting_laws::names_last;
 use crate::lasting_size::{size_in_turns, with_zeros};
-use crate::rule::{
-    Both, CallStep, Deal, Lawful, Learns, Looks, Makes, Says, Site, Teaches, Turns,
-};
+use crate::rule::{Both, CallStep, Deal, Lawful, Learns, Looks, Makes, Says, Site, Teaches, Turns};
 use crate::view::SeatView;
 use arena::{Access, Layout, NoMemory, NodeNo, NodeWord, SettledPart, Shape, Word};
 use atomic_table::{Closed, Seat, Table};

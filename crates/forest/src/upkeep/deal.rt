@@ -241,7 +241,7 @@ fn take_back_to<S: Shape>(
     requires pass { (p : SeatedPass) × (left : Remaining) × (since : List Row)
         × IsAtLasting words.now layout.now seat.old p × HasLeft S.allows p left
         × (next_of own.old.kind left ≡ next) × IsBook (slots_in words.now) p since own.old }
-    ensures table { StaysAtTable seat.old seat.new }
+    ensures table { IsSameSeat seat.old seat.new }
     ensures still { AreSlotsStill own.old own.new }
     ensures more { (next ≤ own.new.dealt) × (own.new.dealt ≤ own.old.dealt) }
     ensures given { RestsOn S.allows
@@ -270,7 +270,7 @@ fn put_more<S: Shape>(
     requires pass { (p : SeatedPass) × (left : Remaining) × (since : List Row)
         × IsAtLasting words.now layout.now seat.old p × HasLeft S.allows p left
         × (next_of own.old.kind left ≡ next) × IsBook (slots_in words.now) p since own.old }
-    ensures table { StaysAtTable seat.old seat.new }
+    ensures table { IsSameSeat seat.old seat.new }
     ensures still { AreSlotsStill own.old own.new }
     ensures more { own.old.dealt ≤ own.new.dealt }
     ensures few { own.new.dealt ≤ own.old.dealt + (length own.old.slots.items - from) }
@@ -358,7 +358,7 @@ fn put_run<S: Shape>(
     requires pass { (p : SeatedPass) × (left : Remaining) × (since : List Row)
         × IsAtLasting words.now layout.now seat.old p × HasLeft S.allows p left
         × (next_of own.old.kind left ≡ own.old.dealt) × IsBook (slots_in words.now) p since own.old }
-    ensures table { StaysAtTable seat.old seat.new }
+    ensures table { IsSameSeat seat.old seat.new }
     ensures still { AreSlotsStill own.old own.new }
     ensures few { (result ≤ own.new.dealt) × (own.new.dealt ≤ result + length own.old.slots.items) }
     ensures given { DealsOn
@@ -391,7 +391,7 @@ pub(crate) fn deal<S: Shape>(
     requires pass { (p : SeatedPass) × (left : Remaining) × (since : List Row)
         × IsAtLasting words.now layout.now seat.old p × HasLeft S.allows p left
         × (next_of own.old.kind left ≡ next) × IsBook (slots_in words.now) p since own.old }
-    ensures table { StaysAtTable seat.old seat.new }
+    ensures table { IsSameSeat seat.old seat.new }
     ensures still { AreSlotsStill own.old own.new }
     ensures few { (result ≤ own.new.dealt) × (own.new.dealt ≤ result + length own.old.slots.items) }
     ensures given { DealsOn (HasDealt S.allows (slots_in words.now) own.old own.new next result)

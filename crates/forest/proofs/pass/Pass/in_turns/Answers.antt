@@ -36,18 +36,21 @@ pub returns : goal.returns
 returns g c = view_is (layout_at c.of-birth.result.value.me.0.passes) (in_turns c.args.layout.now c.args.turns).lay c.args.number.0 c.of_run.result (first_share (in_turns c.args.layout.now c.args.turns) c.args.number.0) c.args.seat c.new-2.result (layout_is g c) (share_is g c) (ap known_of c.requires.seat.0) c.new-2.ensures
 
 pub invariant_of-result : goal.invariant_of-result
-invariant_of-result g c = (rw (layout_is g c) record {
-  seat = seat_back c.args.seat.me.0.passes c.args.number.0 t.lay (planting_of c.args.seat.me.0.passes) (first_memory t c.args.number.0) [] c.requires.seat.0 (ends_self (history_of (planting_of c.args.seat.me.0.passes) [])) refl;
-  bare = c.requires.seat.1;
-  is_mode = c.requires.mode;
-  is_pass = c.requires.pass;
-  first_is = c.first_scx-scx.ensures.is;
-  few = λ none. absurd (none (subst IsMap (sym c.requires.mode) c.requires.map));
-  sound = subst (IsRun g.S.Shape.allows t.lay) (sym begins) c.requires.run;
-  rest = rw (share_is g c) (subst (λ h. IsBetweenCalls t.lay c.args.number.0 h (first_share t c.args.number.0)) (sym begins) (begins_in_turns c.args.layout.now c.args.turns (opening_for (planting_of c.args.seat.me.0.passes)) c.args.number.0 c.requires.few c.requires.may c.requires.run.lawful));
-  dealt = λ map. ap share_end (share_is g c) ∙ ends_as_dealt t c.args.number.0 ∙ sym (ap (λ ps. dealt_to (memory_of ps)) c.requires.seat.0);
-  blamed = blamed_nobody _ c.new-2.ensures;
-}, λ lasts. c.in_ok-keeper.ensures _ refl (ap memory_of c.requires.seat.0))
+invariant_of-result g c = (
+  rw (layout_is g c) record {
+    seat = seat_back c.args.seat.me.0.passes c.args.number.0 t.lay (planting_of c.args.seat.me.0.passes) (first_memory t c.args.number.0) [] c.requires.seat.0 (ends_self (history_of (planting_of c.args.seat.me.0.passes) [])) refl;
+    bare = c.requires.seat.1;
+    is_mode = c.requires.mode;
+    is_pass = c.requires.pass;
+    first_is = c.first_scx-scx.ensures.is;
+    few = λ none. absurd (none (subst IsMap (sym c.requires.mode) c.requires.map));
+    sound = subst (IsRun g.S.Shape.allows t.lay) (sym begins) c.requires.run;
+    rest = rw (share_is g c) (subst (λ h. IsBetweenCalls t.lay c.args.number.0 h (first_share t c.args.number.0)) (sym begins) (begins_in_turns c.args.layout.now c.args.turns (opening_for (planting_of c.args.seat.me.0.passes)) c.args.number.0 c.requires.few c.requires.may c.requires.run.lawful));
+    dealt = λ map. ap share_end (share_is g c) ∙ ends_as_dealt t c.args.number.0 ∙ sym (ap (λ ps. dealt_to (memory_of ps)) c.requires.seat.0);
+    blamed = blamed_nobody _ c.new-2.ensures;
+  },
+  λ lasts. c.in_ok-keeper.ensures _ refl (ap memory_of c.requires.seat.0),
+)
   where
     t : Lasting
     t = in_turns c.args.layout.now c.args.turns

@@ -1,5 +1,5 @@
 use Rattle.std.proofs.Common.{◌-◌, ◌≤◌}
-use Rattle.forest.specs.Seats.{StaysAtTable}
+use Rattle.forest.specs.Seats.{IsSameSeat}
 use Rattle.forest.specs.UpkeepBook.{slots_in}
 use Rattle.forest.specs.UpkeepDeals.{AreSlotsStill, HasDealt}
 use Rattle.forest.specs.UpkeepSteps.{RestsOn}
@@ -7,7 +7,7 @@ use Rattle.forest.proofs.upkeep.deal.take_back_to.Given as goal
 
 abbrev pub invariant-loop-own : goal.invariant-loop-own
 invariant-loop-own g l = record {
-  stays : StaysAtTable l.fn.seat l.seat;
+  stays : IsSameSeat l.fn.seat l.seat;
   still : AreSlotsStill l.fn.own l.own;
   more : l.next ≤ l.own.dealt;
   few : l.own.dealt ≤ l.fn.own.dealt;
