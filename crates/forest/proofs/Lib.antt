@@ -74,3 +74,4 @@ mod UpkeepShares
 mod UpkeepDeals
 mod UpkeepDealt
 mod UpkeepFirst
+mod Rested

@@ -154,6 +154,7 @@ module _ (t : Lasting) (lasting : IsLasting t) (o : ℕ) (is_pass : o < t.lay.pa
       since = [];
       slots = record {
         known = ends_at_start p.planting p.known;
+        rested = subst (λ (m : PassMemory). Extends (past_of p []) (history_of p.planting m.rested)) (sym memory) (ends_at_start p.planting p.known);
         often = often ∙ ap (λ (m : PassMemory). m.often) (sym memory);
         node_kind = node_kind;
         scx_kind = scx_kind;

@@ -48,3 +48,4 @@ pub mod UpkeepPeriod
 pub mod UpkeepBook
 pub mod UpkeepDeals
 pub mod UpkeepKeeper
+pub mod Rests
