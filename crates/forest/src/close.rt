@@ -194,6 +194,7 @@ impl<S: TableOnce> Forest<S> {
         let Forest {
             words,
             plan,
+            turns: _,
             tries: _,
         } = self;
         let layout = plan.layout;
@@ -217,6 +218,7 @@ impl<S: TableOnce> Forest<S> {
         let Forest {
             words,
             plan,
+            turns: _,
             tries: _,
         } = self;
         let layout = plan.layout;

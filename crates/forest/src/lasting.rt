@@ -99,6 +99,7 @@ impl<K: WordKey, V: WordValue, B: FixedBalance> Forest<Dict<K, V, Lasts<B>>> {
         let forest = Forest {
             words,
             plan: TablePlan::in_turns(layout, turns),
+            turns: Some(turns),
             tries,
         };
         Ok((forest, passes))

@@ -29,7 +29,7 @@ pub struct Plot {
 }
 
 /// How names share slots in a table whose records come back.
-#[derive(Clone, Copy)]
+#[derive(Clone, Copy, PartialEq, Eq)]
 pub struct Turns {
     /// A node has the slot of the node that is 2 to this power before it.
     pub node_bits: u32,

@@ -12,6 +12,7 @@ use Rattle.forest.specs.LastingTables.{AreNewIn}
 use Rattle.forest.specs.Passes.{ground}
 use Rattle.forest.specs.Slotted.{in_turns, names_of_table}
 use Rattle.forest.specs.TablePlans.{IsTableOf}
+use Rattle.forest.specs.UpkeepSteps.{IsLastingTable}
 use Rattle.forest.specs.declared.rule.Site.{Site}
 use Rattle.forest.specs.declared.table_plan.TablePlan.{TablePlan}
 use Rattle.forest.proofs.LastingTables.{opening_in_turns, turned_table}
@@ -39,7 +40,14 @@ invariant_of-forest g c =
     let id = c.in_ok-words.words.table.shared.table_id in
     let planned = subst (λ (p : TablePlan). IsTableOf site.layout.mode true id site p) (sym c.in_turns.ensures) (turned_table id site c.args.turns refl c.requires.low c.in_ok-words.ensures.room) in
     let table = subst (λ (s : Site). IsTableOf mode true id s c.in_turns.result) (sym c.in_ok-words.ensures.key) (subst (λ (m : Mode). IsTableOf m true id site c.in_turns.result) c.requires.mode planned) in
-    (table, rw c.in_turns.ensures c.requires.some.0, c.in_ok-words.ensures.table.0, c.requires.some.1, λ once. absurd (let never : true ≡ false = once in cc))
+    let key = c.in_ok-words.words.table.shared.key in
+    let lasting : IsLastingTable id key c.in_turns.result.layout = record {
+      turns = c.args.turns;
+      comes_back = ap (λ (s : Site). s.turns) c.in_ok-words.ensures.key;
+      layout = ap (λ (s : Site). s.layout) c.in_ok-words.ensures.key ∙ sym (ap (λ (p : TablePlan). p.layout) c.in_turns.ensures);
+      room = rw c.in_turns.ensures c.in_ok-words.ensures.room.rests;
+    } in
+    (table, rw c.in_turns.ensures c.requires.some.0, c.in_ok-words.ensures.table.0, c.requires.some.1, λ once. absurd (let never : true ≡ false = once in cc), sym (ap (λ (s : Site). s.turns) c.in_ok-words.ensures.key), λ lasts. lasting)
 
 pub returns-clause-layout : goal.returns-clause-layout
 returns-clause-layout g c = (ap names_of_table c.in_ok-words.ensures.key, refl)

@@ -1,0 +1,43 @@
+//! What a pass of a dictionary whose records come back does between two calls.
+ghost use Rattle.dict.specs.Typed.{TypedAllows};
+ghost use Rattle.dict.specs.Words.{IsWordOf};
+ghost use Rattle.forest.specs.Passes.{IsOf};
+ghost use Rattle.forest.specs.Rests.{HasRested};
+
+use crate::forest::Forest;
+use crate::lasting::Lasts;
+use crate::pass::Pass;
+use arena::PassNo;
+use dict::{Dict, WordKey, WordValue};
+use template::FixedBalance;
+
+impl<K: WordKey, V: WordValue, B: FixedBalance> Forest<Dict<K, V, Lasts<B>>> {
+    /// The pass rests, between two calls: once all others have rested or are away since it began to
+    /// wait for them, what they could still come to is out of reach, and what it has found dead by
+    /// then comes back. It answers the first that it waits for. It makes up to 2 steps for each
+    /// pass, and where all have rested up to 20 for each of its nodes and SCX-records, whatever
+    /// others do; it takes no memory.
+    pub fn rest(&self, pass: &mut Pass<Dict<K, V, Lasts<B>>>) -> Option<PassNo>
+        requires pass { IsOf self.now pass.old }
+        ensures pass { IsOf self.now pass.new }
+        ensures rested { HasRested (TypedAllows (IsWordOf K.is_valid K.word_of) (IsWordOf V.is_valid V.word_of))
+            pass.old pass.new }
+    {
+        let Some(kept) = &mut pass.kept else {
+            return None;
+        };
+        // So it is of each pass of this forest.
+        if self.turns != Some(kept.turns) || self.plan.layout != kept.layout {
+            return None;
+        }
+        let layout = &self.plan.layout;
+        kept.keeper.rest(
+            &self.words,
+            layout,
+            &mut pass.seat,
+            pass.number,
+            &pass.share,
+        );
+        kept.keeper.waits_for()
+    }
+}
