@@ -70,3 +70,4 @@ mod UpkeepTurns
 mod UpkeepShares
 mod UpkeepDeals
 mod UpkeepDealt
+mod UpkeepScx

@@ -43,3 +43,4 @@ pub mod UpkeepSteps
 pub mod UpkeepPeriod
 pub mod UpkeepBook
 pub mod UpkeepDeals
+pub mod UpkeepScx
