@@ -15,6 +15,7 @@ ghost use Rattle.forest.specs.UpkeepDeals.{HasLeft};
 ghost use Rattle.forest.specs.UpkeepScx.{HasLoaded, IsDoneNoted};
 ghost use Rattle.forest.specs.UpkeepSteps.{RestsOn};
 ghost use Rattle.forest.specs.declared.memory.NoteView.{NoteView};
+ghost use Rattle.forest.specs.declared.upkeep.book.Known.{Known};
 ghost use Rattle.forest.specs.declared.upkeep.kind.RecordKind.{RecordKind};
 ghost use Rattle.forest.specs.declared.view.SeatedPass.{SeatedPass};
 
@@ -107,4 +108,74 @@ fn note_over<S: Shape>(
 {
     finished_last::<S>();
     words.load_with::<Brand, u64>(seat, at, name);
+}
+
+/// Whether the info of a node of the SCX-record names another by now; it is noted then. The slot of
+/// the node is looked at, whoever is there.
+fn is_done_with<S: Shape>(
+    words: &Words<S>,
+    layout: &Layout,
+    seat: &mut Seat<u8, SeatView>,
+    slot: u64,
+    of: Covered,
+    node_turn: u64,
+) -> bool
+    requires place { of.place < 4 }
+    requires turn { (0 < node_turn) × (node_turn ≡ (slots_in words.now).node_turn) }
+    requires pass { (p : SeatedPass) × (left : Remaining) × IsAtLasting words.now layout.now seat.old p
+        × HasLeft S.allows p left × IsOwnRecord layout.now p.number.0 (record_numbered RecordKind.Scx slot)
+        × IsNameIn (slots_in words.now) p.number.0 p.memory RecordKind.Scx slot of.name
+        × IsTaken (past_of p []) (record_numbered RecordKind.Scx of.name) }
+    ensures table { StaysAtTable seat.old seat.new }
+    ensures looked { RestsOn S.allows (Remembers
+        (λ m rows. if result
+        then memory_with_note m (numbered RecordKind.Scx of.name) (NoteView.DoneWith of.place)
+        else m))
+        seat.old.me.0 seat.new.me.0 }
+{
+    let part = ScxPart {
+        name: of.name,
+        part: ScxWord::Member(of.place),
+    };
+    let node = load_part(words, layout, seat, slot, part) % node_turn;
+    if node >= u64::from(layout.all_nodes()) {
+        return false;
+    }
+    let at = layout.place(Word::Node(NodeNo(node), NodeWord::Info));
+    is_let_go(words, layout, seat, at, of)
+}
+
+/// Whether the SCX-record of this name, in this slot, is dead; it is noted then. It makes up to 10
+/// steps.
+pub(crate) fn is_over<S: Shape>(
+    words: &Words<S>,
+    layout: &Layout,
+    seat: &mut Seat<u8, SeatView>,
+    slot: u64,
+    name: u64,
+    node_turn: u64,
+) -> bool
+    requires turn { (0 < node_turn) × (node_turn ≡ (slots_in words.now).node_turn) }
+    requires pass { (p : SeatedPass) × (left : Remaining) × IsAtLasting words.now layout.now seat.old p
+        × HasLeft S.allows p left × IsOwnRecord layout.now p.number.0 (record_numbered RecordKind.Scx slot)
+        × IsNameIn (slots_in words.now) p.number.0 p.memory RecordKind.Scx slot name
+        × IsTaken (past_of p []) (record_numbered RecordKind.Scx name) }
+    ensures table { StaysAtTable seat.old seat.new }
+    ensures looked { RestsOn S.allows (KnowsNow (slots_in words.now) RecordKind.Scx slot
+        record { name = name; known = if result then Known.Found else Known.Used })
+        seat.old.me.0 seat.new.me.0 }
+{
+    let at = layout.place(Word::Scx(ScxNo(slot), ScxWord::State));
+    let part = ScxPart {
+        name,
+        part: ScxWord::Plan,
+    };
+    let plan = Plan(load_part(words, layout, seat, slot, part));
+    for place in 0..plan.count() {
+        if !is_done_with(words, layout, seat, slot, Covered { name, place }, node_turn) {
+            return false;
+        }
+    }
+    note_over(words, layout, seat, at, name);
+    true
 }
