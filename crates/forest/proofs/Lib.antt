@@ -73,3 +73,4 @@ mod UpkeepDealt
 mod UpkeepScx
 mod UpkeepKeeper
 mod UpkeepFirst
+mod UpkeepSet
