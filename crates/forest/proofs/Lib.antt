@@ -75,3 +75,5 @@ mod UpkeepDeals
 mod UpkeepDealt
 mod UpkeepFirst
 mod Rested
+mod UpkeepScx
+mod UpkeepSet

@@ -113,12 +113,12 @@ given_dealt Node m count slot rows = refl
 given_dealt Scx m count slot rows = refl
 
 given_keeps : (kind : RecordKind) (m : PassMemory) (count : ℕ) (slot : RecordNo) (rows : List Row) → KeepsPolls kind m (memory_given kind m count slot rows)
-given_keeps Node m count slot rows = record { away = refl; often = refl; polls = refl; others = others }
+given_keeps Node m count slot rows = record { rested = refl; away = refl; often = refl; polls = refl; others = others }
   where
     others : (other : RecordKind) → other ≢ Node → dealt_of other (memory_given Node m count slot rows) ≡ dealt_of other m
     others Node d = absurd (d refl)
     others Scx d = refl
-given_keeps Scx m count slot rows = record { away = refl; often = refl; polls = refl; others = others }
+given_keeps Scx m count slot rows = record { rested = refl; away = refl; often = refl; polls = refl; others = others }
   where
     others : (other : RecordKind) → other ≢ Scx → dealt_of other (memory_given Scx m count slot rows) ≡ dealt_of other m
     others Node d = refl
@@ -236,12 +236,12 @@ back_dealt t Node m name = refl
 back_dealt t Scx m name = refl
 
 back_keeps : (t : Lasting) (kind : RecordKind) (m : PassMemory) (name : ℕ) → KeepsPolls kind m (memory_given_back t m (numbered kind name))
-back_keeps t Node m name = record { away = refl; often = refl; polls = refl; others = others }
+back_keeps t Node m name = record { rested = refl; away = refl; often = refl; polls = refl; others = others }
   where
     others : (other : RecordKind) → other ≢ Node → dealt_of other (memory_given_back t m (numbered Node name)) ≡ dealt_of other m
     others Node d = absurd (d refl)
     others Scx d = refl
-back_keeps t Scx m name = record { away = refl; often = refl; polls = refl; others = others }
+back_keeps t Scx m name = record { rested = refl; away = refl; often = refl; polls = refl; others = others }
   where
     others : (other : RecordKind) → other ≢ Scx → dealt_of other (memory_given_back t m (numbered Scx name)) ≡ dealt_of other m
     others Node d = refl
@@ -273,6 +273,7 @@ module _ (allows : Layout → History → ℕ → Type 0) (t : Lasting) (old new
       back_kept = let x : KeepsPolls old.kind p.memory q.memory = subst (λ (m : PassMemory). KeepsPolls old.kind p.memory m) (sym memory) (back_keeps t old.kind p.memory name) in let y = freed.keeps.rests in record {
         away = y.away ∙ x.away;
         often = y.often ∙ x.often;
+        rested = y.rested ∙ x.rested;
         polls = y.polls ∙ x.polls;
         others = λ other d. same_rests other q.memory r.memory y ∙ x.others other d;
       }
@@ -316,7 +317,7 @@ module _ (allows : Layout → History → ℕ → Type 0) (t : Lasting) (old new
 -- if nothing was done
 pub dealt_not : (allows : Layout → History → ℕ → Type 0) (t : Lasting) (own : OwnSlots) (next : ℕ) (p : SeatedPass) (since : List Row) → IsBook t p since own → p.layout ≡ t.lay → next ≤ own.dealt → own.dealt ≤ own.end → HasDealt allows t own own next next p p
 dealt_not allows t own next p since book layout less ends = record {
-  keeps = record { away = refl; often = refl; polls = refl; others = λ other d. refl };
+  keeps = record { rested = refl; away = refl; often = refl; polls = refl; others = λ other d. refl };
   book = λ before b. b;
   others = λ other before apart b. b;
   left = λ left has same. left_as allows p left own.kind next (own.dealt - next) same few has;
@@ -333,6 +334,7 @@ dealt_on allows t old mid new a b c p q r same x y = record {
   keeps = record {
     away = y.keeps.away ∙ x.keeps.away;
     often = y.keeps.often ∙ x.keeps.often;
+    rested = y.keeps.rested ∙ x.keeps.rested;
     polls = y.keeps.polls ∙ x.keeps.polls;
     others = λ other d. y.keeps.others other (λ e. d (e ∙ same)) ∙ x.keeps.others other d;
   };

@@ -2,7 +2,7 @@
 use Rattle.std.proofs.Common.{◌≡◌, ◌<◌, ◌%◌, ℕ, List, [], ◌∷◌, refl, sym, ◌∙◌, ap, subst, arith}
 use Rattle.atomic_table.specs.Table.{Allows}
 use Rattle.atomic_table.specs.declared.shared.Seat.{Seat}
-use Rattle.histories.specs.Common.{Layout, Row, History, IsWord, NodeWord, ScxWord, Word, Node, Scx, node, place, table_size}
+use Rattle.histories.specs.Common.{Layout, Row, History, IsWord, NodeWord, ScxWord, Word, Node, Scx, node, place, table_size, scx}
 use Rattle.arena.specs.Words.{IsPart, IsScxWord, node_place, offset, scx_place}
 use Rattle.arena.specs.declared.number.PassNo.{PassNo}
 use Rattle.histories.proofs.Lemmas.{own_node_inside, own_scx_inside}
@@ -55,6 +55,9 @@ number_of (ScxRecord s) = s.0
 -- the word of a name is in the slot that it is in
 pub node_in_slot : (t : Lasting) (lay : Layout) (slot name : ℕ) (part : NodeWord) → t.table ≡ lay → slot_number t (numbered NodeKind name) ≡ numbered NodeKind slot → table_place t (node name part) ≡ place lay (node slot part)
 node_in_slot t lay slot name part same is = ap (λ k. place t.table (node k part)) (let e : name % t.node_turn ≡ slot = ap number_of is in e) ∙ ap (λ l. place l (node slot part)) same
+
+pub scx_in_slot : (t : Lasting) (lay : Layout) (slot name : ℕ) (part : ScxWord) → t.table ≡ lay → slot_number t (numbered ScxKind name) ≡ numbered ScxKind slot → table_place t (scx name part) ≡ place lay (scx slot part)
+scx_in_slot t lay slot name part same is = ap (λ k. place t.table (scx k part)) (let e : name % t.scx_turn ≡ slot = ap number_of is in e) ∙ ap (λ l. place l (scx slot part)) same
 
 module _ {S : Type 0} (words : Words S) (lay : Layout) where
   -- a word of an own record is at a place of the table

@@ -49,3 +49,4 @@ pub mod UpkeepBook
 pub mod UpkeepDeals
 pub mod UpkeepKeeper
 pub mod Rests
+pub mod UpkeepScx

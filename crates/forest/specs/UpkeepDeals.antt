@@ -108,6 +108,7 @@ pub record HasPassedTo (allows : Layout → History → ℕ → Type 0) (t : Las
 
 -- of rests of others it remembers the same, and of names of the other kind as many are dealt
 pub record KeepsPolls (kind : RecordKind) (m n : PassMemory) : Type 0 where
+  pub rested : n.rested ≡ m.rested
   pub away : n.away ≡ m.away
   pub often : n.often ≡ m.often
   pub polls : n.polls ≡ m.polls

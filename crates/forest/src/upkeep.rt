@@ -25,6 +25,7 @@ pub(crate) mod looks;
 pub(crate) mod names;
 pub(crate) mod part;
 pub(crate) mod period;
+pub(crate) mod scx;
 pub(crate) mod turn;
 
 /// How often a pass rests at most, so that twice as much fits a word: many more times than any

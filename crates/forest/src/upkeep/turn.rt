@@ -1,9 +1,11 @@
 //! What a pass does with its own slots as a period is over.
 ghost use Rattle.std.specs.Prelude.{◌≡◌, ◌<◌, ℕ, List, [], ◌∷◌, length};
+ghost use Rattle.arena.specs.Share.{Remaining};
 ghost use Rattle.arena.specs.declared.step.Row.{Row};
 ghost use Rattle.slots.specs.Lasting.{IsOwnRecord, IsTaken};
 ghost use Rattle.forest.specs.Seats.{IsSameSeat};
 ghost use Rattle.forest.specs.TableRule.{past_of};
+ghost use Rattle.forest.specs.UpkeepDeals.{HasLeft};
 ghost use Rattle.forest.specs.UpkeepSteps.{RestsOn};
 ghost use Rattle.forest.specs.UpkeepBook.{AreSameSlots, HasEnded, HasFreed, HasTakenBelow, HasTurned, IsAtLasting, IsBook, IsNameIn, IsSlotSo, KnowsNow, WasDying, record_numbered, slots_in};
 ghost use Rattle.forest.specs.declared.view.SeatedPass.{SeatedPass};
@@ -13,23 +15,26 @@ use crate::upkeep::clean::{clean, let_go};
 use crate::upkeep::kind::{RecordKind, RecordName};
 use crate::upkeep::looks::{is_marked, note_dying, note_gone};
 use crate::upkeep::part::word_at;
+use crate::upkeep::scx::is_over;
 use crate::view::SeatView;
 use crate::words::Words;
 use arena::{Layout, Shape};
 use atomic_table::Seat;
 
 /// What is known of each slot once a period is over: what was dying is free, what was found is
-/// dying, and of what is used some is found. It takes up to 20 steps a slot.
+/// dying, and of what is used some is found. It makes up to 20 steps a slot.
 pub(crate) fn turn_all<S: Shape>(
     words: &Words<S>,
     layout: &Layout,
     seat: &mut Seat<u8, SeatView>,
     own: &mut OwnSlots,
     next: u64,
+    node_turn: u64,
 )
-    requires { (p : SeatedPass) × (since : List Row) × IsAtLasting words.now layout.now seat.old p
+    requires turn { (0 < node_turn) × (node_turn ≡ (slots_in words.now).node_turn) }
+    requires pass { (p : SeatedPass) × (since : List Row) × IsAtLasting words.now layout.now seat.old p
         × HasEnded (slots_in words.now) p since × HasTakenBelow p own.old.kind next
-        × IsBook (slots_in words.now) p since own.old }
+        × IsBook (slots_in words.now) p since own.old × (left : Remaining) × HasLeft S.allows p left }
     ensures table { IsSameSeat seat.old seat.new }
     ensures same { AreSameSlots own.old own.new }
     ensures turned { RestsOn S.allows (HasTurned (slots_in words.now) own.new)
@@ -37,7 +42,7 @@ pub(crate) fn turn_all<S: Shape>(
 {
     for i in 0..own.slots.len() {
         let slot = own.first + i as u64;
-        own.slots[i] = turn(words, layout, seat, own.kind, slot, own.slots[i], next);
+        own.slots[i] = turn(words, layout, seat, own.kind, slot, own.slots[i], next, node_turn);
     }
 }
 
@@ -50,11 +55,14 @@ fn turn<S: Shape>(
     slot: u64,
     known: OwnSlot,
     next: u64,
+    node_turn: u64,
 ) -> OwnSlot
-    requires { (p : SeatedPass) × (since : List Row) × IsAtLasting words.now layout.now seat.old p
+    requires turn { (0 < node_turn) × (node_turn ≡ (slots_in words.now).node_turn) }
+    requires pass { (p : SeatedPass) × (since : List Row) × IsAtLasting words.now layout.now seat.old p
         × IsOwnRecord layout.now p.number.0 (record_numbered kind slot)
         × HasEnded (slots_in words.now) p since × HasTakenBelow p kind next
-        × IsSlotSo (slots_in words.now) p since kind slot known }
+        × IsSlotSo (slots_in words.now) p since kind slot known
+        × (left : Remaining) × HasLeft S.allows p left }
     ensures table { IsSameSeat seat.old seat.new }
     ensures turned { RestsOn S.allows (KnowsNow (slots_in words.now) kind slot result)
         seat.old.me.0 seat.new.me.0 }
@@ -63,7 +71,7 @@ fn turn<S: Shape>(
     match known.known {
         Known::Used if name < next => OwnSlot {
             name,
-            known: look_at(words, layout, seat, kind, slot, name),
+            known: look_at(words, layout, seat, kind, slot, name, node_turn),
         },
         Known::Found => {
             let at = layout.place(word_at(kind, slot, 0));
@@ -92,11 +100,14 @@ fn look_at<S: Shape>(
     kind: RecordKind,
     slot: u64,
     name: u64,
+    node_turn: u64,
 ) -> Known
-    requires { (p : SeatedPass) × IsAtLasting words.now layout.now seat.old p
+    requires turn { (0 < node_turn) × (node_turn ≡ (slots_in words.now).node_turn) }
+    requires pass { (p : SeatedPass) × IsAtLasting words.now layout.now seat.old p
         × IsOwnRecord layout.now p.number.0 (record_numbered kind slot)
         × IsNameIn (slots_in words.now) p.number.0 p.memory kind slot name
-        × IsTaken (past_of p []) (record_numbered kind name) }
+        × IsTaken (past_of p []) (record_numbered kind name)
+        × (left : Remaining) × HasLeft S.allows p left }
     ensures table { IsSameSeat seat.old seat.new }
     ensures looked { RestsOn S.allows
         (KnowsNow (slots_in words.now) kind slot record { name = name; known = result })
@@ -110,7 +121,13 @@ fn look_at<S: Shape>(
                 Known::Used
             }
         }
-        RecordKind::Scx => Known::Used,
+        RecordKind::Scx => {
+            if is_over(words, layout, seat, slot, name, node_turn) {
+                Known::Found
+            } else {
+                Known::Used
+            }
+        }
     }
 }
 

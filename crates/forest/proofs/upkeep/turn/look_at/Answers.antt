@@ -6,13 +6,12 @@ use Rattle.forest.specs.UpkeepSteps.{RestsOn}
 use Rattle.forest.specs.declared.memory.NoteView.TheVariants.{MarkedOrDead}
 use Rattle.forest.specs.declared.upkeep.book.Known.TheVariants.{Found, Used}
 use Rattle.forest.specs.declared.upkeep.kind.RecordKind.{RecordKind}
-use Rattle.forest.specs.declared.upkeep.kind.RecordKind.TheVariants.{Node}
-use Rattle.forest.proofs.UpkeepSteps.{seat_still}
-use Rattle.forest.proofs.UpkeepTurn.{as_known, marked_now, unmarked_now, used_still}
+use Rattle.forest.specs.declared.upkeep.kind.RecordKind.TheVariants.{Node, Scx}
+use Rattle.forest.proofs.UpkeepTurn.{as_known, marked_now, unmarked_now}
 use Rattle.forest.proofs.upkeep.turn.look_at.Goals as goal
 
 pub is_marked-requires : goal.is_marked-requires
-is_marked-requires g c = let r = c.requires in let p = r.0 in (
+is_marked-requires g c = let r = c.requires.pass in let p = r.0 in (
   p,
   r.1,
   subst (λ (k : RecordKind). IsOwnRecord c.args.layout.now p.number.0 (record_numbered k c.args.slot)) c.in-Node.is r.2,
@@ -21,17 +20,35 @@ is_marked-requires g c = let r = c.requires in let p = r.0 in (
 )
 
 pub returns-then-is_marked-clause-looked : goal.returns-then-is_marked-clause-looked
-returns-then-is_marked-clause-looked g c = let r = c.requires in let allows = g.S.Shape.allows in let t = slots_in c.args.words.now in
+returns-then-is_marked-clause-looked g c = let r = c.requires.pass in let allows = g.S.Shape.allows in let t = slots_in c.args.words.now in
     as_known allows t c.args.kind c.args.slot record { name = c.args.name; known = Found } c.args.seat.now.me.0 c.is_marked.new.seat.me.0 _ r.0 r.1.alone
     (λ q goes e. marked_now t c.args.kind c.args.slot allows r.0 q goes c.args.name r.3 e)
     (subst (λ (b : Bool). RestsOn allows (Remembers (λ m rows. if b then memory_with_note m (numbered c.args.kind c.args.name) (MarkedOrDead rows) else m)) c.args.seat.now.me.0 c.is_marked.new.seat.me.0) c.if-is_marked.true
     (subst (λ (k : RecordKind). RestsOn allows (Remembers (λ m rows. if c.is_marked.result then memory_with_note m (numbered k c.args.name) (MarkedOrDead rows) else m)) c.args.seat.now.me.0 c.is_marked.new.seat.me.0) (sym c.in-Node.is) c.is_marked.ensures.looked))
 
 pub returns-else-is_marked-clause-looked : goal.returns-else-is_marked-clause-looked
-returns-else-is_marked-clause-looked g c = let r = c.requires in let allows = g.S.Shape.allows in let t = slots_in c.args.words.now in
+returns-else-is_marked-clause-looked g c = let r = c.requires.pass in let allows = g.S.Shape.allows in let t = slots_in c.args.words.now in
     as_known allows t c.args.kind c.args.slot record { name = c.args.name; known = Used } c.args.seat.now.me.0 c.is_marked.new.seat.me.0 _ r.0 r.1.alone
     (λ q goes e. unmarked_now t c.args.kind c.args.slot allows r.0 q goes c.args.name r.3 e)
     (subst (λ (b : Bool). RestsOn allows (Remembers (λ m rows. if b then memory_with_note m (numbered Node c.args.name) (MarkedOrDead rows) else m)) c.args.seat.now.me.0 c.is_marked.new.seat.me.0) c.if-is_marked.false c.is_marked.ensures.looked)
 
-pub returns-in-Scx-clause-looked : goal.returns-in-Scx-clause-looked
-returns-in-Scx-clause-looked g c = let r = c.requires in seat_still g.S.Shape.allows (KnowsNow (slots_in c.args.words.now) c.args.kind c.args.slot record { name = c.args.name; known = Used }) r.0 c.args.seat.now.me.0 r.1.alone (used_still (slots_in c.args.words.now) c.args.kind c.args.slot r.0 c.args.name r.3)
+pub is_over-requires-clause-pass : goal.is_over-requires-clause-pass
+is_over-requires-clause-pass g c = let r = c.requires.pass in let p = r.0 in (
+  p,
+  r.5,
+  r.1,
+  r.6,
+  subst (λ (k : RecordKind). IsOwnRecord c.args.layout.now p.number.0 (record_numbered k c.args.slot)) c.in-Scx.is r.2,
+  subst (λ (k : RecordKind). IsNameIn (slots_in c.args.words.now) p.number.0 p.memory k c.args.slot c.args.name) c.in-Scx.is r.3,
+  subst (λ (k : RecordKind). IsTaken (past_of p []) (record_numbered k c.args.name)) c.in-Scx.is r.4,
+)
+
+pub returns-then-is_over-clause-looked : goal.returns-then-is_over-clause-looked
+returns-then-is_over-clause-looked g c = let allows = g.S.Shape.allows in let t = slots_in c.args.words.now in
+    subst (λ (k : RecordKind). RestsOn allows (KnowsNow t k c.args.slot record { name = c.args.name; known = Found }) c.args.seat.now.me.0 c.is_over.new.seat.me.0) (sym c.in-Scx.is)
+    (subst (λ (b : Bool). RestsOn allows (KnowsNow t Scx c.args.slot record { name = c.args.name; known = if b then Found else Used }) c.args.seat.now.me.0 c.is_over.new.seat.me.0) c.if-is_over.true c.is_over.ensures.looked)
+
+pub returns-else-is_over-clause-looked : goal.returns-else-is_over-clause-looked
+returns-else-is_over-clause-looked g c = let allows = g.S.Shape.allows in let t = slots_in c.args.words.now in
+    subst (λ (k : RecordKind). RestsOn allows (KnowsNow t k c.args.slot record { name = c.args.name; known = Used }) c.args.seat.now.me.0 c.is_over.new.seat.me.0) (sym c.in-Scx.is)
+    (subst (λ (b : Bool). RestsOn allows (KnowsNow t Scx c.args.slot record { name = c.args.name; known = if b then Found else Used }) c.args.seat.now.me.0 c.is_over.new.seat.me.0) c.if-is_over.false c.is_over.ensures.looked)

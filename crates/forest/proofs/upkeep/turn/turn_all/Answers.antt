@@ -1,6 +1,7 @@
 use Rattle.std.proofs.Common.{◌<◌, ◌+◌, length, refl, sym, ◌∙◌, subst, arith}
 use Rattle.std.proofs.lemmas.List.{length-set}
 use Rattle.forest.specs.UpkeepBook.{KnowsNow, slots_in}
+use Rattle.forest.proofs.UpkeepDeals.{left_on}
 use Rattle.forest.proofs.UpkeepLooks.{at_now, table_in}
 use Rattle.forest.proofs.UpkeepSteps.{rests_on, seat_still}
 use Rattle.forest.proofs.UpkeepTurn.{ended_on, from_pass}
@@ -8,15 +9,15 @@ use Rattle.forest.proofs.UpkeepTurns.{TurnsTo, all_turned, none_turned, one_turn
 use Rattle.forest.proofs.upkeep.turn.turn_all.Goals as goal
 
 pub loop-i-init : goal.loop-i-init
-loop-i-init g c = let r = c.requires in record {
+loop-i-init g c = let r = c.requires.pass in record {
   stays = (refl, refl);
   same = record { kind = refl; first = refl; turn = refl; end = refl; dealt = refl; count = refl };
   so = seat_still g.S.Shape.allows (TurnsTo (slots_in c.args.words.now) c.args.own.now c.args.own.now 0) r.0 c.args.seat.now.me.0 r.2.alone (none_turned (slots_in c.args.words.now) c.args.own.now r.0);
 }
 
-pub turn-requires : goal.turn-requires
-turn-requires g c =
-    let r = c.requires in
+pub turn-requires-clause-pass : goal.turn-requires-clause-pass
+turn-requires-clause-pass g c =
+    let r = c.requires.pass in
     let allows = g.S.Shape.allows in
     let t = slots_in c.args.words.now in
     let old = c.args.own.now in
@@ -34,6 +35,8 @@ turn-requires g c =
       ended_on allows r.0 so.later on.0 t r.1 on.1.rests r.3,
       taken_on allows r.0 so.later on.0 own.kind old.kind c.args.next inv.same.kind r.4,
       on.1.waits r.1 r.5 r.3 c.loop-i.i c.index.result.now (omega arith) less (read_at own.slots.items c.loop-i.i c.index.result.now inside c.index.ensures),
+      r.6,
+      left_on allows r.0 so.later r.6 on.0 on.1.rests.away r.7,
     )
 
 pub loop-i-preserved : goal.loop-i-preserved
@@ -44,7 +47,7 @@ loop-i-preserved g c =
     let own = c.loop-i.own in
     let i = c.loop-i.i in
     let inv = c.loop-i.invariant in
-    let r = c.requires in
+    let r = c.requires.pass in
     let so = inv.so in
     let on = from_pass allows (TurnsTo t old own i) c.args.seat.now.me.0 c.loop-i.seat.me.0 r.0 r.2.alone so in
     let y = c.turn.ensures.turned in
@@ -69,7 +72,7 @@ returns-clause-same g c = c.loop-i.invariant.same
 
 pub returns-clause-turned : goal.returns-clause-turned
 returns-clause-turned g c =
-    let r = c.requires in
+    let r = c.requires.pass in
     let allows = g.S.Shape.allows in
     let t = slots_in c.args.words.now in
     let old = c.args.own.now in

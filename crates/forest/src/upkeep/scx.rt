@@ -1,0 +1,181 @@
+//! How a pass sees that an SCX-record of its own is dead: it is finished, as each is between two
+//! calls, and the info of none of its nodes names it any more.
+ghost use Rattle.std.specs.Prelude.{◌≡◌, ◌<◌, ◌%◌, ℕ, if◌then◌else◌, [], ◌∷◌};
+ghost use Rattle.arena.specs.Layout.{place, table_size};
+ghost use Rattle.arena.specs.ScxRecords.{count, member};
+ghost use Rattle.arena.specs.Share.{Remaining};
+ghost use Rattle.arena.specs.Words.{IsScxWord, info};
+ghost use Rattle.arena.specs.declared.number.ScxNo.{ScxNo};
+ghost use Rattle.slots.specs.Lasting.{IsOwnRecord, IsTaken, table_place};
+ghost use Rattle.forest.specs.LastingNotes.{IsAmongThese, memory_done};
+ghost use Rattle.forest.specs.Seats.{IsSameSeat};
+ghost use Rattle.forest.specs.TableRule.{past_of};
+ghost use Rattle.forest.specs.UpkeepBook.{IsAtLasting, IsNameIn, KnowsNow, Remembers, memory_with_note, numbered, record_numbered, slots_in};
+ghost use Rattle.forest.specs.UpkeepDeals.{HasLeft};
+ghost use Rattle.forest.specs.UpkeepScx.{HasLoaded, IsDoneNoted};
+ghost use Rattle.forest.specs.UpkeepSteps.{RestsOn};
+ghost use Rattle.forest.specs.declared.memory.NoteView.{NoteView};
+ghost use Rattle.forest.specs.declared.upkeep.book.Known.{Known};
+ghost use Rattle.forest.specs.declared.upkeep.kind.RecordKind.{RecordKind};
+ghost use Rattle.forest.specs.declared.view.SeatedPass.{SeatedPass};
+
+use crate::lasting_sights::{finished_last, sights_last};
+use crate::upkeep::kind::RecordName;
+use crate::view::SeatView;
+use crate::words::Words;
+use arena::{Layout, NodeNo, NodeWord, Plan, ScxNo, ScxWord, Shape, Word};
+use atomic_table::Seat;
+use std::marker::Brand;
+
+/// A word of an SCX-record, by its name.
+#[derive(Clone, Copy)]
+struct ScxPart {
+    name: u64,
+    part: ScxWord,
+}
+
+/// An SCX-record, and the place of one of its nodes.
+#[derive(Clone, Copy)]
+struct Covered {
+    name: u64,
+    place: u8,
+}
+
+/// Loads a word of the SCX-record of this name, which is in this slot.
+fn load_part<S: Shape>(
+    words: &Words<S>,
+    layout: &Layout,
+    seat: &mut Seat<u8, SeatView>,
+    slot: u64,
+    of: ScxPart,
+) -> u64
+    requires part { IsScxWord of.part }
+    requires pass { (p : SeatedPass) × IsAtLasting words.now layout.now seat.old p
+        × IsOwnRecord layout.now p.number.0 (record_numbered RecordKind.Scx slot)
+        × IsNameIn (slots_in words.now) p.number.0 p.memory RecordKind.Scx slot of.name }
+    ensures table { IsSameSeat seat.old seat.new }
+    ensures loaded { RestsOn S.allows (HasLoaded of.name of.part result) seat.old.me.0 seat.new.me.0 }
+{
+    sights_last::<S>();
+    let at = layout.place(Word::Scx(ScxNo(slot), of.part));
+    words.load_with::<Brand, ScxPart>(seat, at, of)
+}
+
+/// Looks whether the info at this place, of a node that the SCX-record covers, names another, and
+/// notes it.
+fn is_let_go<S: Shape>(
+    words: &Words<S>,
+    layout: &Layout,
+    seat: &mut Seat<u8, SeatView>,
+    at: usize,
+    of: Covered,
+) -> bool
+    requires { (p : SeatedPass) × (left : Remaining) × (n : ℕ)
+        × IsAtLasting words.now layout.now seat.old p
+        × (at < table_size layout.now) × HasLeft S.allows p left
+        × (at ≡ table_place (slots_in words.now) (info n))
+        × (member (past_of p []) of.name of.place ≡ n)
+        × IsAmongThese (numbered RecordKind.Scx of.name) p.memory.holds
+        × IsTaken (past_of p []) (record_numbered RecordKind.Scx of.name) }
+    ensures table { IsSameSeat seat.old seat.new }
+    ensures looked { RestsOn S.allows (Remembers
+        (λ m rows. if result
+        then memory_with_note m (numbered RecordKind.Scx of.name) (NoteView.DoneWith of.place)
+        else m))
+        seat.old.me.0 seat.new.me.0 }
+{
+    finished_last::<S>();
+    words.load_with::<Brand, Covered>(seat, at, of) != of.name
+}
+
+/// Notes that an SCX-record is dead which is done with all of its nodes.
+fn note_over<S: Shape>(
+    words: &Words<S>,
+    layout: &Layout,
+    seat: &mut Seat<u8, SeatView>,
+    at: usize,
+    name: u64,
+)
+    requires { (p : SeatedPass) × (left : Remaining) × IsAtLasting words.now layout.now seat.old p
+        × (at < table_size layout.now) × HasLeft S.allows p left
+        × IsAmongThese (numbered RecordKind.Scx name) p.memory.holds
+        × IsTaken (past_of p []) (record_numbered RecordKind.Scx name)
+        × ((j : ℕ) → j < count (past_of p []) name → IsDoneNoted p.memory name j) }
+    ensures table { IsSameSeat seat.old seat.new }
+    ensures looked { RestsOn S.allows (Remembers
+        (λ m rows. memory_with_note m (numbered RecordKind.Scx name) (NoteView.MarkedOrDead rows)))
+        seat.old.me.0 seat.new.me.0 }
+{
+    finished_last::<S>();
+    words.load_with::<Brand, u64>(seat, at, name);
+}
+
+/// Whether the info of a node of the SCX-record names another by now; it is noted then. The slot of
+/// the node is looked at, whoever is there.
+fn is_done_with<S: Shape>(
+    words: &Words<S>,
+    layout: &Layout,
+    seat: &mut Seat<u8, SeatView>,
+    slot: u64,
+    of: Covered,
+    node_turn: u64,
+) -> bool
+    requires place { of.place < 4 }
+    requires turn { (0 < node_turn) × (node_turn ≡ (slots_in words.now).node_turn) }
+    requires pass { (p : SeatedPass) × (left : Remaining) × IsAtLasting words.now layout.now seat.old p
+        × HasLeft S.allows p left × IsOwnRecord layout.now p.number.0 (record_numbered RecordKind.Scx slot)
+        × IsNameIn (slots_in words.now) p.number.0 p.memory RecordKind.Scx slot of.name
+        × IsTaken (past_of p []) (record_numbered RecordKind.Scx of.name) }
+    ensures table { IsSameSeat seat.old seat.new }
+    ensures looked { RestsOn S.allows (Remembers
+        (λ m rows. if result
+        then memory_with_note m (numbered RecordKind.Scx of.name) (NoteView.DoneWith of.place)
+        else m))
+        seat.old.me.0 seat.new.me.0 }
+{
+    let part = ScxPart {
+        name: of.name,
+        part: ScxWord::Member(of.place),
+    };
+    let node = load_part(words, layout, seat, slot, part) % node_turn;
+    if node >= u64::from(layout.all_nodes()) {
+        return false;
+    }
+    let at = layout.place(Word::Node(NodeNo(node), NodeWord::Info));
+    is_let_go(words, layout, seat, at, of)
+}
+
+/// Whether the SCX-record of this name, in this slot, is dead; it is noted then. It makes up to 10
+/// steps.
+pub(crate) fn is_over<S: Shape>(
+    words: &Words<S>,
+    layout: &Layout,
+    seat: &mut Seat<u8, SeatView>,
+    slot: u64,
+    name: u64,
+    node_turn: u64,
+) -> bool
+    requires turn { (0 < node_turn) × (node_turn ≡ (slots_in words.now).node_turn) }
+    requires pass { (p : SeatedPass) × (left : Remaining) × IsAtLasting words.now layout.now seat.old p
+        × HasLeft S.allows p left × IsOwnRecord layout.now p.number.0 (record_numbered RecordKind.Scx slot)
+        × IsNameIn (slots_in words.now) p.number.0 p.memory RecordKind.Scx slot name
+        × IsTaken (past_of p []) (record_numbered RecordKind.Scx name) }
+    ensures table { IsSameSeat seat.old seat.new }
+    ensures looked { RestsOn S.allows (KnowsNow (slots_in words.now) RecordKind.Scx slot
+        record { name = name; known = if result then Known.Found else Known.Used })
+        seat.old.me.0 seat.new.me.0 }
+{
+    let at = layout.place(Word::Scx(ScxNo(slot), ScxWord::State));
+    let part = ScxPart {
+        name,
+        part: ScxWord::Plan,
+    };
+    let plan = Plan(load_part(words, layout, seat, slot, part));
+    for place in 0..plan.count() {
+        if !is_done_with(words, layout, seat, slot, Covered { name, place }, node_turn) {
+            return false;
+        }
+    }
+    note_over(words, layout, seat, at, name);
+    true
+}
