@@ -57,6 +57,7 @@ mod LastingSlots
 mod LastingNames
 mod LastingTakes
 mod LastingOpens
+mod LastingTables
 mod LastingDeals
 mod LastingSees
 mod LastingTrees

@@ -40,4 +40,5 @@ pub mod LastingSlots
 pub mod LastingNames
 pub mod LastingRule
 pub mod LastingOpening
+pub mod LastingTables
 pub mod Ruled

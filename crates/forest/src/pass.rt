@@ -1,9 +1,13 @@
 //! What a thread needs to make calls.
 ghost use Rattle.std.specs.Prelude.{◌≡◌, ◌<◌, [], ◌∷◌};
+ghost use Rattle.arena.specs.Layout.{IsMap};
 ghost use Rattle.arena.specs.Share.{whole_share};
 ghost use Rattle.arena.specs.History.{Opened};
 ghost use Rattle.arena.specs.Machines.{IsRun};
 ghost use Rattle.planting.specs.Plantings.{opening_for};
+ghost use Rattle.forest.specs.LastingOpening.{first_memory};
+ghost use Rattle.forest.specs.LastingTables.{MayTurn, first_share};
+ghost use Rattle.forest.specs.Slotted.{in_turns};
 ghost use Rattle.forest.specs.TableRule.{all_dealt, seated_pass};
 ghost use Rattle.forest.specs.Traces.{planting_of};
 ghost use Rattle.forest.specs.Passes.{PassView, taken_of};
@@ -11,6 +15,7 @@ ghost use Rattle.forest.specs.Shares.{HasFewNames};
 
 use crate::blamed::Blamed;
 use crate::room::Room;
+use crate::rule::Turns;
 use crate::view::SeatView;
 use arena::{Layout, PassNo, ScxNo, Shape, Share};
 use atomic_table::Seat;
@@ -81,6 +86,52 @@ impl<S: Shape> Pass<S> {
             number,
             first_scx: ScxNo(u64::from(layout.first_scx(number))),
             share: Share::of(layout, number),
+            seat,
+            blamed: Blamed::new(),
+            birth,
+            room: Room::new(alloc),
+            shape: PhantomData,
+        }
+    }
+
+    /// A pass that has made no step, at a seat of its own, in a map's table whose records come
+    /// back: it has its names of the first lap. Its lists are empty, and grow with this allocator.
+    pub(crate) fn in_turns(
+        alloc: Global,
+        layout: &Layout,
+        turns: Turns,
+        number: PassNo,
+        seat: Seat<u8, SeatView>,
+    ) -> Pass<S>
+        requires seat { (seat.me.0.passes
+            ≡ seated_pass number.0 (in_turns layout.now turns).lay (planting_of seat.me.0.passes)
+            (first_memory (in_turns layout.now turns) number.0) [] ∷ [])
+            × (seat.me.1 ≡ []) }
+        requires run { IsRun S.allows (in_turns layout.now turns).lay
+            (Opened (opening_for (planting_of seat.me.0.passes))) }
+        requires pass { number.0 < layout.now.passes }
+        requires mode { layout.now.mode ≡ S.mode }
+        requires map { IsMap S.mode }
+        requires few { HasFewNames layout.now }
+        requires may { MayTurn layout.now turns }
+        ensures { result
+            ≡ record {
+              table = seat.table_id;
+              layout = (in_turns layout.now turns).lay;
+              planting = planting_of seat.me.0.passes;
+              number = number.0;
+              share = first_share (in_turns layout.now turns) number.0;
+              known = [];
+              blamed = [];
+            } }
+    {
+        let birth = Snapshot::of(&seat);
+        let node = turns.first_node(layout, number);
+        let scx = turns.first_scx(layout, number);
+        Pass {
+            number,
+            first_scx: scx,
+            share: Share::of_run(node, layout.nodes, scx, layout.scx),
             seat,
             blamed: Blamed::new(),
             birth,

@@ -1,10 +1,10 @@
 //! The rule of the table, and what a step shows the seat that makes it.
-ghost use Rattle.std.specs.Prelude.{◌≡◌, []};
+ghost use Rattle.std.specs.Prelude.{◌≡◌, ◌≤◌, ◌<◌, ◌+◌, ◌*◌, ◌^◌, []};
 ghost use Rattle.forest.specs.Ruled.{IsRuled, first_of_table};
 ghost use Rattle.forest.specs.TableRule.{Made, Looked, seat_view, rest_of_seat, first_of_seat, joined_seat};
 
 use crate::view::SeatView;
-use arena::{Layout, Shape, Step};
+use arena::{Layout, NodeNo, PassNo, ScxNo, Shape, Step};
 use atomic_table::{Join, Play, Split, TableRule};
 use planting::Planting;
 use std::marker::{Brand, PhantomData};
@@ -37,6 +37,79 @@ pub struct Turns {
     pub scx_bits: u32,
     /// How many names a slot has, less one.
     pub laps: u64,
+}
+
+impl Turns {
+    ghost use Rattle.std.specs.Prelude.{◌≡◌, ◌<◌, ◌≤◌, ◌*◌, ◌+◌, ◌^◌};
+    ghost use Rattle.arena.specs.Layout.{first_node, first_scx};
+    ghost use Rattle.forest.specs.LastingTables.{MayTurn};
+    ghost use Rattle.forest.specs.Shares.{HasFewNames};
+    ghost use Rattle.forest.specs.Slotted.{in_turns};
+
+    /// As few bits as tell the records of this table apart, and as many laps as numbers allow.
+    pub(crate) fn of(layout: &Layout) -> Turns
+        ensures { MayTurn layout.now result }
+    {
+        let node_bits = bits_for(layout.all_nodes());
+        let scx_bits = bits_for(layout.all_scx());
+        Turns {
+            node_bits,
+            scx_bits,
+            laps: power(49 - node_bits.max(scx_bits)),
+        }
+    }
+
+    /// The first name that a pass has for nodes.
+    pub(crate) fn first_node(&self, layout: &Layout, pass: PassNo) -> NodeNo
+        requires may { MayTurn layout.now self.now }
+        requires few { HasFewNames layout.now }
+        requires pass { pass.0 < layout.now.passes }
+        ensures is { result.0 ≡ first_node (in_turns layout.now self.now).lay pass.0 }
+        ensures fits { result.0 < 2 ^ 56 }
+    {
+        let names = names_of(layout.nodes, self.laps, self.node_bits);
+        NodeNo(u64::from(layout.opening()) + u64::from(pass.0) * names)
+    }
+
+    /// The first that it has for SCX-records.
+    pub(crate) fn first_scx(&self, layout: &Layout, pass: PassNo) -> ScxNo
+        requires may { MayTurn layout.now self.now }
+        requires few { HasFewNames layout.now }
+        requires pass { pass.0 < layout.now.passes }
+        ensures is { result.0 ≡ first_scx (in_turns layout.now self.now).lay pass.0 }
+        ensures fits { result.0 < 2 ^ 56 }
+    {
+        let names = names_of(layout.scx, self.laps, self.scx_bits);
+        ScxNo(1 + u64::from(pass.0) * names)
+    }
+}
+
+/// By how many bits so many numbers are told apart.
+fn bits_for(count: u32) -> u32
+    requires { count < 2 ^ 29 }
+    ensures enough { count ≤ 2 ^ result }
+    ensures few { result ≤ 29 }
+{
+    32 - count.leading_zeros()
+}
+
+/// How many names a pass has that has so many slots.
+fn names_of(slots: u32, laps: u64, bits: u32) -> u64
+    requires slots { slots ≤ 32768 }
+    requires bits { bits ≤ 29 }
+    requires laps { laps * 2 ^ bits ≤ 2 ^ 49 }
+    ensures names { result ≡ slots + laps * 2 ^ bits }
+    ensures few { result ≤ 2 ^ 50 }
+{
+    u64::from(slots) + laps * power(bits)
+}
+
+/// 2 to this power.
+pub(crate) fn power(bits: u32) -> u64
+    requires { bits < 64 }
+    ensures { result ≡ 2 ^ bits }
+{
+    1 << bits
 }
 
 /// What a table is told once, as it is made.

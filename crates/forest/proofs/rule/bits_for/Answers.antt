@@ -1,0 +1,8 @@
+use Rattle.forest.proofs.LastingTables.{bits_enough}
+use Rattle.forest.proofs.rule.bits_for.Goals as goal
+
+pub returns-clause-enough : goal.returns-clause-enough
+returns-clause-enough c = (bits_enough c.args.count c.requires).0
+
+pub returns-clause-few : goal.returns-clause-few
+returns-clause-few c = (bits_enough c.args.count c.requires).1

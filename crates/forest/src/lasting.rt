@@ -1,0 +1,134 @@
+//! Dictionaries whose records come back.
+ghost use Rattle.std.specs.Prelude.{◌≡◌, ◌<◌, ℕ, [], IfOk};
+ghost use Rattle.arena.specs.History.{Opened};
+ghost use Rattle.arena.specs.Layout.{IsMap};
+ghost use Rattle.arena.specs.Machines.{IsRun};
+ghost use Rattle.planting.specs.Plantings.{opening_for};
+ghost use Rattle.template.specs.Balance.{map_mode};
+ghost use Rattle.dict.specs.Typed.{TypedAllows};
+ghost use Rattle.dict.specs.Words.{IsWordOf};
+ghost use Rattle.forest.specs.LastingOpening.{first_view};
+ghost use Rattle.forest.specs.LastingTables.{AreNewIn, MayTurn};
+ghost use Rattle.forest.specs.Passes.{ground};
+ghost use Rattle.forest.specs.Seats.{IsSeatAt};
+ghost use Rattle.forest.specs.Shares.{HasFewNames};
+ghost use Rattle.forest.specs.Slotted.{in_turns};
+
+use crate::forest::Forest;
+use crate::pass::Pass;
+use crate::rule::{Plot, Site, Turns};
+use crate::table_plan::TablePlan;
+use crate::table_shape::Upkeep;
+use crate::view::SeatView;
+use crate::words::Words;
+use arena::{Layout, NoMemory, PassNo, Shape};
+use atomic_table::Seat;
+use dict::{Dict, WordKey, WordValue};
+use std::alloc::Global;
+use template::{Balance, FixedBalance};
+
+/// A tree or a trie, as another balance says, of a dictionary whose records come back.
+#[derive(Clone, Copy, Debug, PartialEq, Eq)]
+pub struct Lasts<B>(B);
+
+impl<B: Balance> Balance for Lasts<B> {
+    ghost trie = { λ b. B.trie b.0 };
+
+    #[inline(always)]
+    fn in_trie(&self) -> bool {
+        self.0.in_trie()
+    }
+}
+
+impl<B: FixedBalance> FixedBalance for Lasts<B> {
+    ghost the = { record { 0 = B.the } };
+
+    #[inline(always)]
+    fn the() -> Lasts<B> {
+        Lasts(B::the())
+    }
+}
+
+impl<B: FixedBalance> Upkeep for Lasts<B> {
+    ghost use Rattle.std.specs.Prelude.{true};
+
+    ghost lasts = { true };
+
+    #[inline(always)]
+    fn lasts() -> bool {
+        true
+    }
+}
+
+impl<K: WordKey, V: WordValue, B: FixedBalance> Forest<Dict<K, V, Lasts<B>>> {
+    /// A table as it is at the start, with what is planted in it, whose slots are taken in these
+    /// turns, and a pass for each client. The only error is want of memory.
+    pub(crate) fn with_turns(
+        alloc: Global,
+        plot: Plot,
+        turns: Turns,
+        tries: u32,
+    ) -> Result<
+        (
+            Forest<Dict<K, V, Lasts<B>>>,
+            Vec<Pass<Dict<K, V, Lasts<B>>>>,
+        ),
+        NoMemory,
+    >
+        requires mode { plot.layout.mode ≡ map_mode (B.trie B.the) }
+        requires few { HasFewNames plot.layout }
+        requires may { MayTurn plot.layout turns }
+        requires some { (0 < plot.layout.passes) × (0 < tries) }
+        requires planting { plot.planting.mode ≡ plot.layout.mode }
+        requires run { IsRun (TypedAllows (IsWordOf K.is_valid K.word_of) (IsWordOf V.is_valid V.word_of))
+            (in_turns plot.layout turns).lay (Opened (opening_for plot.planting)) }
+        ensures layout { IfOk result (λ r. (r.0.layout ≡ (in_turns plot.layout turns).lay)
+            × (r.0.tries ≡ tries)) }
+        ensures planting { IfOk result (λ r. r.0.planting ≡ plot.planting) }
+        ensures passes { IfOk result (λ r. AreNewIn (in_turns plot.layout turns) r.0 r.1.items) }
+    {
+        let Plot { layout, planting } = plot;
+        let site = Site {
+            layout,
+            planting,
+            turns: Some(turns),
+        };
+        let (words, seat) = Words::open_in_turns(alloc, &site, turns)?;
+        let passes = pass_all(alloc, &words, &layout, turns, seat)?;
+        let forest = Forest {
+            words,
+            plan: TablePlan::in_turns(layout, turns),
+            tries,
+        };
+        Ok((forest, passes))
+    }
+}
+
+/// A pass for each of a seat's.
+fn pass_all<S: Shape>(
+    alloc: Global,
+    words: &Words<S>,
+    layout: &Layout,
+    turns: Turns,
+    mut seat: Seat<u8, SeatView>,
+) -> Result<Vec<Pass<S>>, NoMemory>
+    requires mode { layout.now.mode ≡ S.mode }
+    requires map { IsMap S.mode }
+    requires few { HasFewNames layout.now }
+    requires may { MayTurn layout.now turns }
+    requires table { IsSeatAt words.now seat }
+    requires seat { (seat.me.0 ≡ first_view (in_turns layout.now turns) words.now.table.shared.key.planting)
+        × (seat.me.1 ≡ []) }
+    requires run { IsRun S.allows (in_turns layout.now turns).lay
+        (Opened (opening_for words.now.table.shared.key.planting)) }
+    ensures { IfOk result
+        (λ passes. (tries : ℕ) → AreNewIn (in_turns layout.now turns)
+        (ground words.now.table.shared.table_id (in_turns layout.now turns).lay words.now.table.shared.key.planting tries) passes.items) }
+{
+    let mut passes = Vec::new(alloc);
+    for number in 0..layout.passes {
+        let own = words.deal(&mut seat);
+        passes.push(Pass::in_turns(layout, turns, PassNo(number), own))?;
+    }
+    Ok(passes)
+}
