@@ -11,10 +11,14 @@ use Rattle.arena.specs.Words.{IsScxWord, node_place, scx_place}
 use Rattle.arena.specs.declared.limits.Mode.TheVariants.{Tree, Trie, Records}
 use Rattle.arena.specs.declared.word.NodeWord.{NodeWord}
 use Rattle.arena.specs.declared.word.ScxWord.{ScxWord}
-use Rattle.histories.specs.Common.{Layout, Mode, Word, Node, Scx, IsWord, all_nodes, all_scx}
-use Rattle.slots.specs.Lasting.{IsLasting, table_place}
-use Rattle.forest.specs.LastingTables.{HasRoom, MayTurn}
-use Rattle.forest.specs.Shares.{HasFewNames}
+use Rattle.histories.specs.Common.{Lawful, Layout, Mode, Opened, Opening, Word, Node, Scx, IsWord, all_nodes, all_scx, first_node, first_scx}
+use Rattle.arena.specs.Share.{whole_share}
+use Rattle.prims.proofs.Lemmas.{none_taken, whole_untouched}
+use Rattle.prims.specs.Shares.{IsShare, share_end}
+use Rattle.slots.specs.Lasting.{IsLasting, Lasting, table_place}
+use Rattle.forest.specs.LastingOpening.{first_memory}
+use Rattle.forest.specs.LastingTables.{HasRoom, MayTurn, first_share}
+use Rattle.forest.specs.Shares.{EndsAsDealt, HasFewNames, IsBetweenCalls}
 use Rattle.forest.specs.Slotted.{in_turns, names_for, slots_by}
 use Rattle.forest.specs.TablePlans.{HasMasks, IsTableOf}
 use Rattle.forest.specs.declared.rule.Site.{Site}
@@ -105,3 +109,29 @@ turned_table id site t turns room = record {
   where
     plan : TablePlan
     plan = record { layout = site.layout; node_mask = 2 ^ t.node_bits - 1; scx_mask = 2 ^ t.scx_bits - 1 }
+
+-- At the start a pass that has its names of the first lap is at rest.
+pub begins_in_turns : (lay : Layout) (t : Turns) (o : Opening) (c : ℕ) → HasFewNames lay → MayTurn lay t → Lawful (in_turns lay t).lay (Opened o) → IsBetweenCalls (in_turns lay t).lay c (Opened o) (first_share (in_turns lay t) c)
+begins_in_turns lay t o c few may lawful = record {
+  share = record {
+    from_node = omega arith;
+    to_node = (let all = node_names_are lay t few may in omega (arith, all));
+    from_scx = omega arith;
+    to_scx = (let all = scx_names_are lay t few may in omega (arith, all));
+    taken_nodes = whole.taken_nodes;
+    taken_scx = whole.taken_scx;
+    unmentioned = whole.unmentioned;
+    untaken_nodes = whole.untaken_nodes;
+    untaken = whole.untaken;
+  };
+  upper = λ none. absurd (many_names lay t few may none);
+  over = λ s own d taken. absurd (none_taken o s taken);
+}
+  where
+    whole : IsShare (in_turns lay t).lay (Opened o) c (whole_share (in_turns lay t).lay c) (first_node (in_turns lay t).lay c) (first_scx (in_turns lay t).lay c)
+    whole = whole_untouched (in_turns lay t).lay o c lawful
+
+-- what it has ends where the names end that are dealt
+pub ends_as_dealt : (t : Lasting) (c : ℕ) → EndsAsDealt (first_share t c) (first_memory t c)
+unfolding share_end
+ends_as_dealt t c = refl

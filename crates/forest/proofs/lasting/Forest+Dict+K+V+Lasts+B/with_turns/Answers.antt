@@ -1,0 +1,35 @@
+use Rattle.std.proofs.Common.{◌≡◌, ◌∙◌, refl, sym, ap, subst}
+use Rattle.histories.specs.Common.{Layout, Opened, IsRun}
+use Rattle.planting.specs.Plantings.{opening_for}
+use Rattle.slots.specs.Lasting.{Lasting}
+use Rattle.dict.specs.Laws.Begins.{dict_mode}
+use Rattle.dict.specs.Laws.TypedMaps.{typed_run}
+use Rattle.dict.specs.Typed.{TypedAllows}
+use Rattle.dict.specs.Words.{IsWordOf}
+use Rattle.forest.specs.LastingOpening.{first_view}
+use Rattle.forest.specs.LastingTables.{AreNewIn}
+use Rattle.forest.specs.Passes.{ground}
+use Rattle.forest.specs.Slotted.{in_turns, names_of_table}
+use Rattle.forest.specs.declared.rule.Site.{Site}
+use Rattle.forest.proofs.lasting.Forest+Dict+K+V+Lasts+B.with_turns.Goals as goal
+
+pub open_in_turns-requires-clause-map : goal.open_in_turns-requires-clause-map
+open_in_turns-requires-clause-map g c = (
+  dict_mode c.args.plot.layout.mode (g.B.Balance.trie g.B.FixedBalance.the) c.requires.mode,
+  typed_run (IsWordOf g.K.WordKey.is_valid g.K.WordKey.word_of) (IsWordOf g.V.WordValue.is_valid g.V.WordValue.word_of) (in_turns c.args.plot.layout c.args.turns).lay (Opened (opening_for c.args.plot.planting)) c.requires.run,
+)
+
+pub pass_all-requires-clause-seat : goal.pass_all-requires-clause-seat
+pass_all-requires-clause-seat g c = (c.in_ok-words.ensures.seat.0 ∙ ap (λ (s : Site). first_view (in_turns c.args.plot.layout c.args.turns) s.planting) (sym c.in_ok-words.ensures.key), c.in_ok-words.ensures.seat.1)
+
+pub pass_all-requires-clause-run : goal.pass_all-requires-clause-run
+pass_all-requires-clause-run g c = subst (λ (s : Site). IsRun (TypedAllows (IsWordOf g.K.WordKey.is_valid g.K.WordKey.word_of) (IsWordOf g.V.WordValue.is_valid g.V.WordValue.word_of)) (in_turns c.args.plot.layout c.args.turns).lay (Opened (opening_for s.planting))) (sym c.in_ok-words.ensures.key) c.requires.run
+
+pub returns-clause-layout : goal.returns-clause-layout
+returns-clause-layout g c = (ap names_of_table c.in_ok-words.ensures.key, refl)
+
+pub returns-clause-passes : goal.returns-clause-passes
+returns-clause-passes g c =
+    let t : Lasting = in_turns c.args.plot.layout c.args.turns in
+    let shared = c.in_ok-words.words.table.shared in
+    subst (λ (l : Layout). AreNewIn t (ground shared.table_id l shared.key.planting c.args.tries) c.in_ok-passes.passes.items) (sym (ap names_of_table c.in_ok-words.ensures.key)) (c.in_ok-passes.ensures c.args.tries)

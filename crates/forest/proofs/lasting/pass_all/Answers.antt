@@ -1,0 +1,62 @@
+use Rattle.std.proofs.Common.{rules, ◌≡◌, ◌<◌, ◌-◌, ◌∙◌, ℕ, [], ◌∷◌, List, slice_get, sym, ap, subst, arith}
+use Rattle.histories.specs.Common.{Opened, IsRun}
+use Rattle.planting.specs.Plantings.{PlantingView, opening_for}
+use Rattle.prims.proofs.Lemmas.{get_more}
+use Rattle.slots.specs.Lasting.{Lasting}
+use Rattle.forest.specs.LastingOpening.{first_memory}
+use Rattle.forest.specs.LastingRule.{plot_in}
+use Rattle.forest.specs.LastingTables.{new_pass_in}
+use Rattle.forest.specs.Passes.{PassView, ground}
+use Rattle.forest.specs.Slotted.{in_turns}
+use Rattle.forest.specs.TableRule.{first_of, passes_with, rest_of, seated_pass}
+use Rattle.forest.specs.Traces.{planting_of}
+use Rattle.forest.specs.declared.view.SeatView.{SeatView}
+use Rattle.forest.specs.declared.view.SeatedPass.{SeatedPass}
+use Rattle.forest.proofs.Openings.{first_with, rest_with}
+use Rattle.forest.proofs.lasting.pass_all.Goals as goal
+
+pub loop-number-init : goal.loop-number-init
+loop-number-init g c = record {
+  count = search rules;
+  each = search rules;
+  table = c.requires.table;
+  bare = c.requires.seat.1;
+  left = (let all : c.args.layout.now.passes - 0 ≡ c.args.layout.now.passes = omega arith in rw all (ap (λ (v : SeatView). v.passes) c.requires.seat.0));
+}
+
+-- what the next seat knows
+dealt : (t : Lasting) (planting : PlantingView) (n : ℕ) (own : List SeatedPass) → own ≡ first_of (passes_with (first_memory t) (plot_in t planting) n (t.lay.passes - n)) → n < t.lay.passes → own ≡ seated_pass n t.lay planting (first_memory t n) [] ∷ []
+dealt t planting n own is inside = is ∙ first_with (first_memory t) (plot_in t planting) n t.lay.passes inside
+
+pub in_turns-requires-clause-seat : goal.in_turns-requires-clause-seat
+in_turns-requires-clause-seat g c =
+    let t : Lasting = in_turns c.args.layout.now c.args.turns in
+    let own = dealt t c.args.words.now.table.shared.key.planting c.loop-number.number c.deal-own.result.me.0.passes (c.deal-own.ensures.passes.1 ∙ ap first_of c.loop-number.invariant.left) (search rules) in
+    (subst (λ (ps : List SeatedPass). c.deal-own.result.me.0.passes ≡ seated_pass c.loop-number.number t.lay (planting_of ps) (first_memory t c.loop-number.number) [] ∷ []) (sym own) own, c.deal-own.ensures.bare.1)
+
+pub in_turns-requires-clause-run : goal.in_turns-requires-clause-run
+in_turns-requires-clause-run g c =
+    let t : Lasting = in_turns c.args.layout.now c.args.turns in
+    let own = dealt t c.args.words.now.table.shared.key.planting c.loop-number.number c.deal-own.result.me.0.passes (c.deal-own.ensures.passes.1 ∙ ap first_of c.loop-number.invariant.left) (search rules) in
+    subst (λ (b : PlantingView). IsRun g.S.Shape.allows t.lay (Opened (opening_for b))) (sym (ap planting_of own)) c.requires.run
+
+pub loop-number-preserved : goal.loop-number-preserved
+loop-number-preserved g c =
+    let t : Lasting = in_turns c.args.layout.now c.args.turns in
+    let planting = c.args.words.now.table.shared.key.planting in
+    let own = dealt t planting c.loop-number.number c.deal-own.result.me.0.passes (c.deal-own.ensures.passes.1 ∙ ap first_of c.loop-number.invariant.left) (search rules) in
+    record {
+      count = search rules;
+      each = λ tries j d get. get_more (λ k (d : PassView). d ≡ new_pass_in t (ground c.args.words.now.table.shared.table_id t.lay planting tries) k) c.loop-number.passes.items c.in_turns.result c.loop-number.number
+          (search rules)
+          (c.loop-number.invariant.each tries)
+          (c.in_turns.ensures ∙ ap (λ id. new_pass_in t (ground id t.lay (planting_of c.deal-own.result.me.0.passes) tries) c.loop-number.number) (c.deal-own.ensures.table.1 ∙ c.loop-number.invariant.table)
+          ∙ ap (λ (b : PlantingView). new_pass_in t (ground c.args.words.now.table.shared.table_id t.lay b tries) c.loop-number.number) (ap planting_of own))
+          j d (sym (ap (λ l. slice_get l j) c.in_ok-push.ensures.items) ∙ get);
+      table = c.deal-own.ensures.table.0 ∙ c.loop-number.invariant.table;
+      bare = c.deal-own.ensures.bare.0 ∙ c.loop-number.invariant.bare;
+      left = c.deal-own.ensures.passes.0 ∙ ap rest_of c.loop-number.invariant.left ∙ rest_with (first_memory t) (plot_in t planting) c.loop-number.number c.args.layout.now.passes (search rules);
+    }
+
+pub returns : goal.returns
+returns g c = λ tries. record { count = search rules; each = c.loop-number.invariant.each tries }
