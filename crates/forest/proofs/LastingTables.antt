@@ -1,5 +1,5 @@
 -- A table whose records come back: that its names fit, and that each of their words has a place.
-use Rattle.std.proofs.Common.{◌≡◌, ◌<◌, ◌≤◌, ◌+◌, ◌-◌, ◌*◌, ◌%◌, ◌^◌, ◌∙◌, ℕ, true, Option, Some, refl, sym, ap, subst, arith, min}
+use Rattle.std.proofs.Common.{◌≡◌, ◌<◌, ◌≤◌, ◌+◌, ◌-◌, ◌*◌, ◌%◌, ◌^◌, ℕ, true, Option, Some, refl, sym, subst, arith, min}
 use Rattle.std.proofs.Math.Nat.{le-mul_of_pos_right, min-eq_left, mod-lt}
 use Rattle.std.proofs.Math.Pow.{pow_mono}
 use Rattle.std.proofs.lemmas.Nat.{leading_length, pow-add, pow_pos}
@@ -25,13 +25,13 @@ use Rattle.forest.specs.declared.rule.Site.{Site}
 use Rattle.forest.specs.declared.rule.Turns.{Turns}
 use Rattle.forest.specs.declared.table_plan.TablePlan.{TablePlan}
 
--- the digits of a number tell those below it apart
-pub bits_enough : (count : ℕ) → count < 2 ^ 29 → (count ≤ 2 ^ (32 - count_leading_zeros 32 count)) × (32 - count_leading_zeros 32 count ≤ 29)
+-- the digits of a number tell those below it apart, and one digit fewer does not
+pub bits_enough : (count : ℕ) → count < 2 ^ 29 → (let bits : ℕ = 32 - count_leading_zeros 32 count in (count ≤ 2 ^ bits) × (2 ^ bits ≤ 2 * count + 1) × (bits ≤ 29))
 bits_enough count few =
     let t = leading_length 29 count few in
     let same : 32 - t.0 ≡ count_leading_zeros 32 count = leading_unique 32 count (32 - t.0) t.0 (omega (arith, t.1)) t.2 t.3 in
     let bits : 32 - count_leading_zeros 32 count ≡ t.0 = omega (arith, same, t.1) in
-    (rw bits (omega (arith, t.2)), omega (arith, bits, t.1))
+    (rw bits (omega (arith, t.2)), rw bits t.3, omega (arith, bits, t.1))
 
 -- that many laps of the wider turns, or of others, are numbers that fit
 laps_fit : (a m : ℕ) → a ≤ m → m ≤ 29 → 2 ^ (49 - m) * 2 ^ a ≤ 2 ^ 49

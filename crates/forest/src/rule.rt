@@ -41,14 +41,16 @@ pub struct Turns {
 
 impl Turns {
     ghost use Rattle.std.specs.Prelude.{◌≡◌, ◌<◌, ◌≤◌, ◌*◌, ◌+◌, ◌^◌};
-    ghost use Rattle.arena.specs.Layout.{first_node, first_scx};
+    ghost use Rattle.arena.specs.Layout.{all_nodes, all_scx, first_node, first_scx};
     ghost use Rattle.forest.specs.LastingTables.{MayTurn};
     ghost use Rattle.forest.specs.Shares.{HasFewNames};
     ghost use Rattle.forest.specs.Slotted.{in_turns};
 
     /// As few bits as tell the records of this table apart, and as many laps as numbers allow.
     pub(crate) fn of(layout: &Layout) -> Turns
-        ensures { MayTurn layout.now result }
+        ensures may { MayTurn layout.now result }
+        ensures narrow { (2 ^ result.node_bits ≤ 2 * all_nodes layout.now + 1)
+            × (2 ^ result.scx_bits ≤ 2 * all_scx layout.now + 1) }
     {
         let node_bits = bits_for(layout.all_nodes());
         let scx_bits = bits_for(layout.all_scx());
@@ -88,6 +90,7 @@ impl Turns {
 fn bits_for(count: u32) -> u32
     requires { count < 2 ^ 29 }
     ensures enough { count ≤ 2 ^ result }
+    ensures narrow { 2 ^ result ≤ 2 * count + 1 }
     ensures few { result ≤ 29 }
 {
     32 - count.leading_zeros()

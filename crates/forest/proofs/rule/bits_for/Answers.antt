@@ -4,5 +4,8 @@ use Rattle.forest.proofs.rule.bits_for.Goals as goal
 pub returns-clause-enough : goal.returns-clause-enough
 returns-clause-enough c = (bits_enough c.args.count c.requires).0
 
+pub returns-clause-narrow : goal.returns-clause-narrow
+returns-clause-narrow c = (bits_enough c.args.count c.requires).1
+
 pub returns-clause-few : goal.returns-clause-few
-returns-clause-few c = (bits_enough c.args.count c.requires).1
+returns-clause-few c = (bits_enough c.args.count c.requires).2

@@ -1,7 +1,8 @@
-use Rattle.std.proofs.Common.{◌≡◌, ◌∙◌, refl, sym, ap, subst}
-use Rattle.histories.specs.Common.{Layout, Opened, IsRun}
+use Rattle.std.proofs.Common.{◌≡◌, ◌∙◌, true, false, Some, refl, sym, ap, subst}
+use Rattle.histories.specs.Common.{Layout, Mode, Opened, IsRun}
 use Rattle.planting.specs.Plantings.{opening_for}
 use Rattle.slots.specs.Lasting.{Lasting}
+use Rattle.template.specs.Balance.{map_mode}
 use Rattle.dict.specs.Laws.Begins.{dict_mode}
 use Rattle.dict.specs.Laws.TypedMaps.{typed_run}
 use Rattle.dict.specs.Typed.{TypedAllows}
@@ -10,7 +11,10 @@ use Rattle.forest.specs.LastingOpening.{first_view}
 use Rattle.forest.specs.LastingTables.{AreNewIn}
 use Rattle.forest.specs.Passes.{ground}
 use Rattle.forest.specs.Slotted.{in_turns, names_of_table}
+use Rattle.forest.specs.TablePlans.{IsTableOf}
 use Rattle.forest.specs.declared.rule.Site.{Site}
+use Rattle.forest.specs.declared.table_plan.TablePlan.{TablePlan}
+use Rattle.forest.proofs.LastingTables.{turned_table}
 use Rattle.forest.proofs.lasting.Forest+Dict+K+V+Lasts+B.with_turns.Goals as goal
 
 pub open_in_turns-requires-clause-map : goal.open_in_turns-requires-clause-map
@@ -24,6 +28,15 @@ pass_all-requires-clause-seat g c = (c.in_ok-words.ensures.seat.0 ∙ ap (λ (s 
 
 pub pass_all-requires-clause-run : goal.pass_all-requires-clause-run
 pass_all-requires-clause-run g c = subst (λ (s : Site). IsRun (TypedAllows (IsWordOf g.K.WordKey.is_valid g.K.WordKey.word_of) (IsWordOf g.V.WordValue.is_valid g.V.WordValue.word_of)) (in_turns c.args.plot.layout c.args.turns).lay (Opened (opening_for s.planting))) (sym c.in_ok-words.ensures.key) c.requires.run
+
+pub invariant_of-forest : goal.invariant_of-forest
+invariant_of-forest g c =
+    let site : Site = record { layout = c.args.plot.layout; planting = c.args.plot.planting; turns = Some c.args.turns } in
+    let mode : Mode = map_mode (g.B.Balance.trie g.B.FixedBalance.the) in
+    let id = c.in_ok-words.words.table.shared.table_id in
+    let planned = subst (λ (p : TablePlan). IsTableOf site.layout.mode true id site p) (sym c.in_turns.ensures) (turned_table id site c.args.turns refl c.in_ok-words.ensures.room) in
+    let table = subst (λ (s : Site). IsTableOf mode true id s c.in_turns.result) (sym c.in_ok-words.ensures.key) (subst (λ (m : Mode). IsTableOf m true id site c.in_turns.result) c.requires.mode planned) in
+    (table, rw c.in_turns.ensures c.requires.some.0, c.in_ok-words.ensures.table.0, c.requires.some.1, λ once. absurd (let never : true ≡ false = once in cc))
 
 pub returns-clause-layout : goal.returns-clause-layout
 returns-clause-layout g c = (ap names_of_table c.in_ok-words.ensures.key, refl)

@@ -2,8 +2,8 @@ use Rattle.std.proofs.Common.{arith}
 use Rattle.forest.proofs.LastingTables.{turns_fit}
 use Rattle.forest.proofs.rule.Turns.of.Goals as goal
 
-pub returns : goal.returns
-returns c =
+pub returns-clause-may : goal.returns-clause-may
+returns-clause-may c =
     let nodes = c.bits_for-node_bits.ensures in
     let scx = c.bits_for-scx_bits.ensures in
     let most = c.max.ensures in
