@@ -128,7 +128,7 @@ fn pass_all<S: Shape>(
     let mut passes = Vec::new(alloc);
     for number in 0..layout.passes {
         let own = words.deal(&mut seat);
-        passes.push(Pass::in_turns(layout, turns, PassNo(number), own))?;
+        passes.push(Pass::in_turns(alloc, layout, turns, PassNo(number), own))?;
     }
     Ok(passes)
 }

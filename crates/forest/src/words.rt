@@ -20,7 +20,7 @@ ghost use Rattle.forest.specs.TablePlans.{IsPlaceOf, IsTableOnce};
 ghost use Rattle.forest.specs.TableRule.{MayStep, Made, Looked, look, new_passes, rest_of, first_of};
 
 use crate::lasting_laws::names_last;
-use crate::lasting_room::{room, with_zeros};
+use crate::lasting_size::{size_in_turns, with_zeros};
 use crate::rule::{Both, CallStep, Deal, Lawful, Looks, Makes, Says, Site, Turns};
 use crate::view::SeatView;
 use arena::{Access, Layout, NoMemory, NodeNo, NodeWord, SettledPart, Shape, Word};
@@ -84,7 +84,7 @@ impl<S: Shape> Words<S> {
             × (w.1.me.1 ≡ [])) }
     {
         let opening = site.planting.words(alloc, &site.layout)?;
-        let words = with_zeros(alloc, opening.words(), room(&site.layout, &turns))?;
+        let words = with_zeros(alloc, opening.words(), size_in_turns(&site.layout, &turns))?;
         names_last::<S>();
         let (table, seat) = Table::of_words(alloc, &words, site)?;
         Ok((Words { table }, seat))

@@ -21,11 +21,11 @@ use Rattle.forest.proofs.pass.Pass.in_turns.Given.{Over}
 use Rattle.forest.proofs.pass.Pass.in_turns.Goals as goal
 
 -- the layout of its names is that of the table's
-layout_is : (g : Over) (c : goal.After-new g) → layout_at c.of-birth.result.value.me.0.passes ≡ (in_turns c.args.layout.now c.args.turns).lay
+layout_is : (g : Over) (c : goal.After-new-2 g) → layout_at c.of-birth.result.value.me.0.passes ≡ (in_turns c.args.layout.now c.args.turns).lay
 layout_is g c = ap (λ (s : Seat ℕ SeatView). layout_at s.me.0.passes) c.of-birth.ensures ∙ ap layout_at c.requires.seat.0
 
 -- and its share that of the first lap
-share_is : (g : Over) (c : goal.After-new g) → c.of_run.result ≡ first_share (in_turns c.args.layout.now c.args.turns) c.args.number.0
+share_is : (g : Over) (c : goal.After-new-2 g) → c.of_run.result ≡ first_share (in_turns c.args.layout.now c.args.turns) c.args.number.0
 share_is g c = c.of_run.ensures ∙ rw (c.first_node-node.ensures.is, c.first_scx-scx.ensures.is) refl
 
 -- so is what contracts see of it

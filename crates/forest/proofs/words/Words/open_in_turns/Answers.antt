@@ -43,7 +43,7 @@ of_words-requires g c =
     let first = c.words-2 in
     let wide = c.in_ok-words.ensures in
     let all = c.in_ok-words.words.items in
-    let opened : OpensLasting allows (in_turns site.layout t) site.planting all = opens allows site.layout t site.planting first.result.now all c.requires.few c.requires.may (subst (HasRoom site.layout t) (sym wide.size) c.room.ensures)
+    let opened : OpensLasting allows (in_turns site.layout t) site.planting all = opens allows site.layout t site.planting first.result.now all c.requires.few c.requires.may (subst (HasRoom site.layout t) (sym wide.size) c.size_in_turns.ensures)
     (subst (λ (o : Option Turns). IsMapRun (slots_by site.layout o).lay (Opened (opening_for site.planting))) turns c.requires.map)
     (subst (λ (o : Option Turns). IsRun allows (slots_by site.layout o).lay (Opened (opening_for site.planting))) turns c.requires.run)
     (first.ensures.size ∙ ap table_size laid.layout)

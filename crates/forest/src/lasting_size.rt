@@ -8,7 +8,7 @@ use std::alloc::Global;
 
 /// So many words that each name's word has a place, and each pass a line of the cache in which its
 /// rests are counted.
-pub(crate) fn room(layout: &Layout, turns: &Turns) -> usize
+pub(crate) fn size_in_turns(layout: &Layout, turns: &Turns) -> usize
     requires { MayTurn layout.now turns.now }
     ensures { HasRoom layout.now turns.now result }
 {
