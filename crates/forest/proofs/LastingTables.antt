@@ -1,5 +1,5 @@
 -- A table whose records come back: that its names fit, and that each of their words has a place.
-use Rattle.std.proofs.Common.{◌≡◌, ◌<◌, ◌≤◌, ◌+◌, ◌-◌, ◌*◌, ◌%◌, ◌^◌, ℕ, true, Option, Some, refl, sym, subst, arith, min}
+use Rattle.std.proofs.Common.{◌≡◌, ◌<◌, ◌≤◌, ◌⊎◌, ◌+◌, ◌-◌, ◌*◌, ◌%◌, ◌^◌, ℕ, true, Option, Some, inl, inr, refl, sym, subst, arith, min}
 use Rattle.std.proofs.Math.Nat.{le-mul_of_pos_right, min-eq_left, mod-lt}
 use Rattle.std.proofs.Math.Pow.{pow_mono}
 use Rattle.std.proofs.lemmas.Nat.{leading_length, pow-add, pow_pos}
@@ -11,8 +11,12 @@ use Rattle.arena.specs.Words.{IsScxWord, node_place, scx_place}
 use Rattle.arena.specs.declared.limits.Mode.TheVariants.{Tree, Trie, Records}
 use Rattle.arena.specs.declared.word.NodeWord.{NodeWord}
 use Rattle.arena.specs.declared.word.ScxWord.{ScxWord}
-use Rattle.histories.specs.Common.{Lawful, Layout, Mode, Opened, Opening, Word, Node, Scx, IsWord, all_nodes, all_scx, first_node, first_scx}
+use Rattle.histories.specs.Common.{History, IsRun, Lawful, Layout, Mode, Opened, Shaped, Opening, Word, Node, Scx, IsWord, all_nodes, all_scx, first_node, first_scx}
 use Rattle.arena.specs.Share.{whole_share}
+use Rattle.arena.specs.Openings.{empty}
+use Rattle.ordered_map.proofs.Lemmas.{none_edited}
+use Rattle.ordered_map.specs.Planted.{IsPlanted}
+use Rattle.dict.specs.Typed.{TypedAllows}
 use Rattle.prims.proofs.Lemmas.{none_taken, whole_untouched}
 use Rattle.prims.specs.Shares.{IsShare, share_end}
 use Rattle.slots.specs.Lasting.{IsLasting, Lasting, table_place}
@@ -135,3 +139,31 @@ begins_in_turns lay t o c few may lawful = record {
 pub ends_as_dealt : (t : Lasting) (c : ℕ) → EndsAsDealt (first_share t c) (first_memory t c)
 unfolding share_end
 ends_as_dealt t c = refl
+
+-- What is planted in a table has the same shape over the layout of its names: that is of the table's
+-- mode, with as many planted nodes.
+planted_in_turns : (lay : Layout) (t : Turns) (h : History) (s : ℕ) → IsPlanted lay h s → IsPlanted (in_turns lay t).lay h s
+planted_in_turns lay t h s x = record {
+  dummy = x.dummy;
+  tree = x.tree;
+  is_tree = x.is_tree;
+  items = x.items;
+  ends_low = x.ends_low;
+  whole = x.whole;
+  there = x.there;
+  root = x.root;
+  last = x.last;
+  right = x.right;
+  blank = x.blank;
+  deep = x.deep;
+  forks = x.forks;
+}
+
+pub opening_in_turns : (keys values : ℕ → Type 0) (lay : Layout) (t : Turns) (o : Opening) → IsRun (TypedAllows keys values) lay (Opened o) → IsRun (TypedAllows keys values) (in_turns lay t).lay (Opened o)
+unfolding Lawful Shaped
+opening_in_turns keys values lay t o run = record { lawful = run.lawful; shaped = go run.shaped }
+  where
+    go : (o ≡ empty o.mode) ⊎ TypedAllows keys values lay (Opened o) 0 → (o ≡ empty o.mode) ⊎ TypedAllows keys values (in_turns lay t).lay (Opened o) 0
+    go (inl e) = inl e
+    go (inr (inl x)) = absurd (none_edited lay o x.0 x.1)
+    go (inr (inr x)) = inr (inr (planted_in_turns lay t (Opened o) 0 x.0, x.1))

@@ -81,7 +81,7 @@ impl<K: WordKey, V: WordValue, B: FixedBalance> Forest<Dict<K, V, Lasts<B>>> {
         requires some { (0 < plot.layout.passes) × (0 < tries) }
         requires planting { plot.planting.mode ≡ plot.layout.mode }
         requires run { IsRun (TypedAllows (IsWordOf K.is_valid K.word_of) (IsWordOf V.is_valid V.word_of))
-            (in_turns plot.layout turns).lay (Opened (opening_for plot.planting)) }
+            plot.layout (Opened (opening_for plot.planting)) }
         ensures layout { IfOk result (λ r. (r.0.layout ≡ (in_turns plot.layout turns).lay)
             × (r.0.tries ≡ tries)) }
         ensures planting { IfOk result (λ r. r.0.planting ≡ plot.planting) }

@@ -14,20 +14,23 @@ use Rattle.forest.specs.Slotted.{in_turns, names_of_table}
 use Rattle.forest.specs.TablePlans.{IsTableOf}
 use Rattle.forest.specs.declared.rule.Site.{Site}
 use Rattle.forest.specs.declared.table_plan.TablePlan.{TablePlan}
-use Rattle.forest.proofs.LastingTables.{turned_table}
+use Rattle.forest.proofs.LastingTables.{opening_in_turns, turned_table}
 use Rattle.forest.proofs.lasting.Forest+Dict+K+V+Lasts+B.with_turns.Goals as goal
+
+pub open_in_turns-requires-clause-run : goal.open_in_turns-requires-clause-run
+open_in_turns-requires-clause-run g c = opening_in_turns (IsWordOf g.K.WordKey.is_valid g.K.WordKey.word_of) (IsWordOf g.V.WordValue.is_valid g.V.WordValue.word_of) c.args.plot.layout c.args.turns (opening_for c.args.plot.planting) c.requires.run
 
 pub open_in_turns-requires-clause-map : goal.open_in_turns-requires-clause-map
 open_in_turns-requires-clause-map g c = (
   dict_mode c.args.plot.layout.mode (g.B.Balance.trie g.B.FixedBalance.the) c.requires.mode,
-  typed_run (IsWordOf g.K.WordKey.is_valid g.K.WordKey.word_of) (IsWordOf g.V.WordValue.is_valid g.V.WordValue.word_of) (in_turns c.args.plot.layout c.args.turns).lay (Opened (opening_for c.args.plot.planting)) c.requires.run,
+  typed_run (IsWordOf g.K.WordKey.is_valid g.K.WordKey.word_of) (IsWordOf g.V.WordValue.is_valid g.V.WordValue.word_of) (in_turns c.args.plot.layout c.args.turns).lay (Opened (opening_for c.args.plot.planting)) (opening_in_turns (IsWordOf g.K.WordKey.is_valid g.K.WordKey.word_of) (IsWordOf g.V.WordValue.is_valid g.V.WordValue.word_of) c.args.plot.layout c.args.turns (opening_for c.args.plot.planting) c.requires.run),
 )
 
 pub pass_all-requires-clause-seat : goal.pass_all-requires-clause-seat
 pass_all-requires-clause-seat g c = (c.in_ok-words.ensures.seat.0 ∙ ap (λ (s : Site). first_view (in_turns c.args.plot.layout c.args.turns) s.planting) (sym c.in_ok-words.ensures.key), c.in_ok-words.ensures.seat.1)
 
 pub pass_all-requires-clause-run : goal.pass_all-requires-clause-run
-pass_all-requires-clause-run g c = subst (λ (s : Site). IsRun (TypedAllows (IsWordOf g.K.WordKey.is_valid g.K.WordKey.word_of) (IsWordOf g.V.WordValue.is_valid g.V.WordValue.word_of)) (in_turns c.args.plot.layout c.args.turns).lay (Opened (opening_for s.planting))) (sym c.in_ok-words.ensures.key) c.requires.run
+pass_all-requires-clause-run g c = subst (λ (s : Site). IsRun (TypedAllows (IsWordOf g.K.WordKey.is_valid g.K.WordKey.word_of) (IsWordOf g.V.WordValue.is_valid g.V.WordValue.word_of)) (in_turns c.args.plot.layout c.args.turns).lay (Opened (opening_for s.planting))) (sym c.in_ok-words.ensures.key) (opening_in_turns (IsWordOf g.K.WordKey.is_valid g.K.WordKey.word_of) (IsWordOf g.V.WordValue.is_valid g.V.WordValue.word_of) c.args.plot.layout c.args.turns (opening_for c.args.plot.planting) c.requires.run)
 
 pub invariant_of-forest : goal.invariant_of-forest
 invariant_of-forest g c =
