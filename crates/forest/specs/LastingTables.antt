@@ -5,6 +5,7 @@ use Rattle.arena.specs.Opening.{node_size}
 use Rattle.histories.specs.Common.{Layout, Remaining, all_nodes, all_scx, first_node, first_scx, table_size}
 use Rattle.slots.specs.Lasting.{Lasting}
 use Rattle.forest.specs.Passes.{Ground, PassView, new_pass}
+use Rattle.forest.specs.Slotted.{in_turns}
 use Rattle.forest.specs.declared.rule.Turns.{Turns}
 
 -- So many bits of a name may say the slot: each node of the table has a slot of its own by them, and
@@ -39,3 +40,10 @@ new_pass_in t f c = record (new_pass f c) { share = first_share t c }
 pub record AreNewIn (t : Lasting) (f : Ground) (passes : List PassView) : Type 0 where
   pub count : length passes ≡ f.layout.passes
   pub each : (j : ℕ) (d : PassView) → slice_get passes j ≡ Some d → d ≡ new_pass_in t f j
+
+-- the forest is of a table of this layout whose records come back, and has a pass for each client
+pub record OpensInTurns (lay : Layout) (f : Ground) (passes : List PassView) : Type 0 where
+  pub turns : Turns
+  pub may : MayTurn lay turns
+  pub layout : f.layout ≡ (in_turns lay turns).lay
+  pub new : AreNewIn (in_turns lay turns) f passes

@@ -8,7 +8,7 @@ ghost use Rattle.template.specs.Balance.{map_mode};
 ghost use Rattle.dict.specs.Typed.{TypedAllows};
 ghost use Rattle.dict.specs.Words.{IsWordOf};
 ghost use Rattle.forest.specs.LastingOpening.{first_view};
-ghost use Rattle.forest.specs.LastingTables.{AreNewIn, MayTurn};
+ghost use Rattle.forest.specs.LastingTables.{AreNewIn, MayTurn, OpensInTurns};
 ghost use Rattle.forest.specs.Passes.{ground};
 ghost use Rattle.forest.specs.Seats.{IsSeatAt};
 ghost use Rattle.forest.specs.Shares.{HasFewNames};
@@ -61,12 +61,11 @@ impl<B: FixedBalance> Upkeep for Lasts<B> {
 }
 
 impl<K: WordKey, V: WordValue, B: FixedBalance> Forest<Dict<K, V, Lasts<B>>> {
-    /// A table as it is at the start, with what is planted in it, whose slots are taken in these
-    /// turns, and a pass for each client. The only error is want of memory.
+    /// A table as it is at the start, with what is planted in it, whose records come back, and a
+    /// pass for each client. The only error is want of memory.
     pub(crate) fn with_turns(
         alloc: Global,
         plot: Plot,
-        turns: Turns,
         tries: u32,
     ) -> Result<
         (
@@ -77,17 +76,16 @@ impl<K: WordKey, V: WordValue, B: FixedBalance> Forest<Dict<K, V, Lasts<B>>> {
     >
         requires mode { plot.layout.mode ≡ map_mode (B.trie B.the) }
         requires few { HasFewNames plot.layout }
-        requires may { MayTurn plot.layout turns }
         requires some { (0 < plot.layout.passes) × (0 < tries) }
         requires planting { plot.planting.mode ≡ plot.layout.mode }
         requires run { IsRun (TypedAllows (IsWordOf K.is_valid K.word_of) (IsWordOf V.is_valid V.word_of))
             plot.layout (Opened (opening_for plot.planting)) }
-        ensures layout { IfOk result (λ r. (r.0.layout ≡ (in_turns plot.layout turns).lay)
-            × (r.0.tries ≡ tries)) }
+        ensures opens { IfOk result (λ r. OpensInTurns plot.layout r.0 r.1.items) }
         ensures planting { IfOk result (λ r. r.0.planting ≡ plot.planting) }
-        ensures passes { IfOk result (λ r. AreNewIn (in_turns plot.layout turns) r.0 r.1.items) }
+        ensures tries { IfOk result (λ r. r.0.tries ≡ tries) }
     {
         let Plot { layout, planting } = plot;
+        let turns = Turns::of(&layout);
         let site = Site {
             layout,
             planting,

@@ -30,6 +30,7 @@ pub use arena::{Full, Resource};
 pub use close::Closed;
 pub use fault::{NewFault, OrderFault, PairsFault, UpdateFault};
 pub use forest::Forest;
+pub use lasting::Lasts;
 pub use lasting_laws::{looks_last, names_last, rests_last, seats_last, slots_last, steps_last};
 pub use lasting_sights::{finished_last, sights_last, trees_last};
 pub use open::{OpenCall, Stepped};
