@@ -8,7 +8,7 @@ ghost use Rattle.template.specs.Balance.{map_mode};
 ghost use Rattle.dict.specs.Typed.{TypedAllows};
 ghost use Rattle.dict.specs.Words.{IsWordOf};
 ghost use Rattle.forest.specs.LastingOpening.{first_view};
-ghost use Rattle.forest.specs.LastingTables.{AreNewIn, MayTurn, OpensInTurns};
+ghost use Rattle.forest.specs.LastingTables.{AreNewIn, MayTakeTurns, OpensInTurns};
 ghost use Rattle.forest.specs.Passes.{ground};
 ghost use Rattle.forest.specs.Seats.{IsSeatAt};
 ghost use Rattle.forest.specs.Shares.{HasFewNames};
@@ -92,7 +92,7 @@ impl<K: WordKey, V: WordValue, B: FixedBalance> Forest<Dict<K, V, Lasts<B>>> {
             turns: Some(turns),
         };
         let (words, seat) = Words::open_in_turns(alloc, &site, turns)?;
-        let passes = pass_all(alloc, &words, &layout, turns, seat)?;
+        let passes = passes_in_turns(alloc, &words, &layout, turns, seat)?;
         let forest = Forest {
             words,
             plan: TablePlan::in_turns(layout, turns),
@@ -103,7 +103,7 @@ impl<K: WordKey, V: WordValue, B: FixedBalance> Forest<Dict<K, V, Lasts<B>>> {
 }
 
 /// A pass for each of a seat's.
-fn pass_all<S: Shape>(
+fn passes_in_turns<S: Shape>(
     alloc: Global,
     words: &Words<S>,
     layout: &Layout,
@@ -113,7 +113,7 @@ fn pass_all<S: Shape>(
     requires mode { layout.now.mode ≡ S.mode }
     requires map { IsMap S.mode }
     requires few { HasFewNames layout.now }
-    requires may { MayTurn layout.now turns }
+    requires may { MayTakeTurns layout.now turns }
     requires table { IsSeatAt words.now seat }
     requires seat { (seat.me.0 ≡ first_view (in_turns layout.now turns) words.now.table.shared.key.planting)
         × (seat.me.1 ≡ []) }

@@ -26,11 +26,11 @@ open_in_turns-requires-clause-map g c = (
   typed_run (IsWordOf g.K.WordKey.is_valid g.K.WordKey.word_of) (IsWordOf g.V.WordValue.is_valid g.V.WordValue.word_of) (in_turns c.args.plot.layout c.of-turns.result).lay (Opened (opening_for c.args.plot.planting)) (opening_in_turns (IsWordOf g.K.WordKey.is_valid g.K.WordKey.word_of) (IsWordOf g.V.WordValue.is_valid g.V.WordValue.word_of) c.args.plot.layout c.of-turns.result (opening_for c.args.plot.planting) c.requires.run),
 )
 
-pub pass_all-requires-clause-seat : goal.pass_all-requires-clause-seat
-pass_all-requires-clause-seat g c = (c.in_ok-words.ensures.seat.0 ∙ ap (λ (s : Site). first_view (in_turns c.args.plot.layout c.of-turns.result) s.planting) (sym c.in_ok-words.ensures.key), c.in_ok-words.ensures.seat.1)
+pub passes_in_turns-requires-clause-seat : goal.passes_in_turns-requires-clause-seat
+passes_in_turns-requires-clause-seat g c = (c.in_ok-words.ensures.seat.0 ∙ ap (λ (s : Site). first_view (in_turns c.args.plot.layout c.of-turns.result) s.planting) (sym c.in_ok-words.ensures.key), c.in_ok-words.ensures.seat.1)
 
-pub pass_all-requires-clause-run : goal.pass_all-requires-clause-run
-pass_all-requires-clause-run g c = subst (λ (s : Site). IsRun (TypedAllows (IsWordOf g.K.WordKey.is_valid g.K.WordKey.word_of) (IsWordOf g.V.WordValue.is_valid g.V.WordValue.word_of)) (in_turns c.args.plot.layout c.of-turns.result).lay (Opened (opening_for s.planting))) (sym c.in_ok-words.ensures.key) (opening_in_turns (IsWordOf g.K.WordKey.is_valid g.K.WordKey.word_of) (IsWordOf g.V.WordValue.is_valid g.V.WordValue.word_of) c.args.plot.layout c.of-turns.result (opening_for c.args.plot.planting) c.requires.run)
+pub passes_in_turns-requires-clause-run : goal.passes_in_turns-requires-clause-run
+passes_in_turns-requires-clause-run g c = subst (λ (s : Site). IsRun (TypedAllows (IsWordOf g.K.WordKey.is_valid g.K.WordKey.word_of) (IsWordOf g.V.WordValue.is_valid g.V.WordValue.word_of)) (in_turns c.args.plot.layout c.of-turns.result).lay (Opened (opening_for s.planting))) (sym c.in_ok-words.ensures.key) (opening_in_turns (IsWordOf g.K.WordKey.is_valid g.K.WordKey.word_of) (IsWordOf g.V.WordValue.is_valid g.V.WordValue.word_of) c.args.plot.layout c.of-turns.result (opening_for c.args.plot.planting) c.requires.run)
 
 pub invariant_of-forest : goal.invariant_of-forest
 invariant_of-forest g c =

@@ -14,7 +14,7 @@ use Rattle.forest.specs.Traces.{planting_of}
 use Rattle.forest.specs.declared.view.SeatView.{SeatView}
 use Rattle.forest.specs.declared.view.SeatedPass.{SeatedPass}
 use Rattle.forest.proofs.Openings.{first_with, rest_with}
-use Rattle.forest.proofs.lasting.pass_all.Goals as goal
+use Rattle.forest.proofs.lasting.passes_in_turns.Goals as goal
 
 pub loop-number-init : goal.loop-number-init
 loop-number-init g c = record {
