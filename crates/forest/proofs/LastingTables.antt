@@ -30,18 +30,18 @@ use Rattle.forest.specs.declared.rule.Turns.{Turns}
 use Rattle.forest.specs.declared.table_plan.TablePlan.{TablePlan}
 
 -- the digits of a number tell those below it apart, and one digit fewer does not
-pub bits_enough : (count : ℕ) → count < 2 ^ 29 → (let bits : ℕ = 32 - count_leading_zeros 32 count in (count ≤ 2 ^ bits) × (2 ^ bits ≤ 2 * count + 1) × (bits ≤ 29))
-bits_enough count few =
-    let t = leading_length 29 count few in
-    let same : 32 - t.0 ≡ count_leading_zeros 32 count = leading_unique 32 count (32 - t.0) t.0 (omega (arith, t.1)) t.2 t.3 in
-    let bits : 32 - count_leading_zeros 32 count ≡ t.0 = omega (arith, same, t.1) in
+pub bits_enough : (count k : ℕ) → k ≤ 32 → count < 2 ^ k → (let bits : ℕ = 32 - count_leading_zeros 32 count in (count ≤ 2 ^ bits) × (2 ^ bits ≤ 2 * count + 1) × (bits ≤ k))
+bits_enough count k few less =
+    let t = leading_length k count less in
+    let same : 32 - t.0 ≡ count_leading_zeros 32 count = leading_unique 32 count (32 - t.0) t.0 (omega (arith, few, t.1)) t.2 t.3 in
+    let bits : 32 - count_leading_zeros 32 count ≡ t.0 = omega (arith, few, same, t.1) in
     (rw bits (omega (arith, t.2)), rw bits t.3, omega (arith, bits, t.1))
 
 -- that many laps of the wider turns, or of others, are numbers that fit
 laps_fit : (a m : ℕ) → a ≤ m → m ≤ 29 → 2 ^ (49 - m) * 2 ^ a ≤ 2 ^ 49
 laps_fit a m less few = subst (λ k. k ≤ 2 ^ 49) (pow-add 2 (49 - m) a) (pow_mono {j = 49} (omega (arith, less, few)))
 
-pub turns_fit : (lay : Layout) (nodes scx most laps : ℕ) → all_nodes lay ≤ 2 ^ nodes → all_scx lay ≤ 2 ^ scx → nodes ≤ 29 → scx ≤ 29 → nodes ≤ most → scx ≤ most → most ≤ 29 → laps ≡ 2 ^ (49 - most) → MayTakeTurns lay record { node_bits = nodes; scx_bits = scx; laps = laps }
+pub turns_fit : (lay : Layout) (nodes scx most laps : ℕ) → all_nodes lay ≤ 2 ^ nodes → all_scx lay ≤ 2 ^ scx → nodes ≤ 26 → scx ≤ 29 → nodes ≤ most → scx ≤ most → most ≤ 29 → laps ≡ 2 ^ (49 - most) → MayTakeTurns lay record { node_bits = nodes; scx_bits = scx; laps = laps }
 turns_fit lay nodes scx most laps node_room scx_room few_nodes few_scx under_nodes under_scx few are = record {
   nodes = node_room;
   scx = scx_room;
@@ -102,11 +102,11 @@ inside_turns lay t words room (Scx s part) i =
     omega (arith, turn, within, enough)
 
 -- So the words lie as a plan says that has the masks of these bits.
-pub turned_table : (id : TableId) (site : Site) (t : Turns) → site.turns ≡ Some t → HasWordsFor site.layout t id.words → IsTableOf site.layout.mode true id site record { layout = site.layout; node_mask = 2 ^ t.node_bits - 1; scx_mask = 2 ^ t.scx_bits - 1 }
-turned_table id site t turns room = record {
+pub turned_table : (id : TableId) (site : Site) (t : Turns) → site.turns ≡ Some t → MayTakeTurns site.layout t → HasWordsFor site.layout t id.words → IsTableOf site.layout.mode true id site record { layout = site.layout; node_mask = 2 ^ t.node_bits - 1; scx_mask = 2 ^ t.scx_bits - 1 }
+turned_table id site t turns may room = record {
   mode_is = refl;
   layout = refl;
-  masks = subst (λ (o : Option Turns). HasMasks true o plan) (sym turns) (refl, refl);
+  masks = subst (λ (o : Option Turns). HasMasks true o plan) (sym turns) (may.node_bits, refl, refl);
   inside = subst (λ (o : Option Turns). (w : Word) → IsWord (slots_by site.layout o).lay w → table_place (slots_by site.layout o) w < id.words) (sym turns) (inside_turns site.layout t id.words room);
   few = room.few;
 }

@@ -14,7 +14,7 @@ use Rattle.forest.specs.declared.rule.Turns.{Turns}
 pub record MayTakeTurns (lay : Layout) (t : Turns) : Type 0 where
   pub nodes : all_nodes lay ≤ 2 ^ t.node_bits
   pub scx : all_scx lay ≤ 2 ^ t.scx_bits
-  pub node_bits : t.node_bits ≤ 29
+  pub node_bits : t.node_bits ≤ 26
   pub scx_bits : t.scx_bits ≤ 29
   pub node_names : t.laps * 2 ^ t.node_bits ≤ 2 ^ 49
   pub scx_names : t.laps * 2 ^ t.scx_bits ≤ 2 ^ 49

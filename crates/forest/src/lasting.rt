@@ -1,7 +1,7 @@
 //! Dictionaries whose records come back.
-ghost use Rattle.std.specs.Prelude.{◌≡◌, ◌<◌, ℕ, [], IfOk};
+ghost use Rattle.std.specs.Prelude.{◌≡◌, ◌<◌, ◌^◌, ℕ, [], IfOk};
 ghost use Rattle.arena.specs.History.{Opened};
-ghost use Rattle.arena.specs.Layout.{IsMap};
+ghost use Rattle.arena.specs.Layout.{IsMap, all_nodes};
 ghost use Rattle.arena.specs.Machines.{IsRun};
 ghost use Rattle.planting.specs.Plantings.{opening_for};
 ghost use Rattle.template.specs.Balance.{map_mode};
@@ -76,6 +76,7 @@ impl<K: WordKey, V: WordValue, B: FixedBalance> Forest<Dict<K, V, Lasts<B>>> {
     >
         requires mode { plot.layout.mode ≡ map_mode (B.trie B.the) }
         requires few { HasFewNames plot.layout }
+        requires room { all_nodes plot.layout < 2 ^ 26 }
         requires some { (0 < plot.layout.passes) × (0 < tries) }
         requires planting { plot.planting.mode ≡ plot.layout.mode }
         requires run { IsRun (TypedAllows (IsWordOf K.is_valid K.word_of) (IsWordOf V.is_valid V.word_of))

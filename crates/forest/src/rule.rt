@@ -1,5 +1,5 @@
 //! The rule of the table, and what a step shows the seat that makes it.
-ghost use Rattle.std.specs.Prelude.{◌≡◌, ◌≤◌, ◌<◌, ◌+◌, ◌*◌, ◌^◌, []};
+ghost use Rattle.std.specs.Prelude.{◌≡◌, ◌≤◌, ◌<◌, ◌+◌, ◌*◌, ◌^◌, ℕ, []};
 ghost use Rattle.forest.specs.Ruled.{IsRuled, first_of_table};
 ghost use Rattle.forest.specs.TableRule.{Made, Looked, seat_view, rest_of_seat, first_of_seat, joined_seat};
 
@@ -48,6 +48,7 @@ impl Turns {
 
     /// As few bits as tell the records of this table apart, and as many laps as numbers allow.
     pub(crate) fn of(layout: &Layout) -> Turns
+        requires { all_nodes layout.now < 2 ^ 26 }
         ensures may { MayTakeTurns layout.now result }
         ensures narrow { (2 ^ result.node_bits ≤ 2 * all_nodes layout.now + 1)
             × (2 ^ result.scx_bits ≤ 2 * all_scx layout.now + 1) }
@@ -88,10 +89,9 @@ impl Turns {
 
 /// By how many bits so many numbers are told apart.
 fn bits_for(count: u32) -> u32
-    requires { count < 2 ^ 29 }
     ensures enough { count ≤ 2 ^ result }
     ensures narrow { 2 ^ result ≤ 2 * count + 1 }
-    ensures few { result ≤ 29 }
+    ensures few { (bits : ℕ) → bits ≤ 32 → count < 2 ^ bits → result ≤ bits }
 {
     32 - count.leading_zeros()
 }

@@ -37,7 +37,7 @@ invariant_of-forest g c =
     let site : Site = record { layout = c.args.plot.layout; planting = c.args.plot.planting; turns = Some c.of-turns.result } in
     let mode : Mode = map_mode (g.B.Balance.trie g.B.FixedBalance.the) in
     let id = c.in_ok-words.words.table.shared.table_id in
-    let planned = subst (λ (p : TablePlan). IsTableOf site.layout.mode true id site p) (sym c.in_turns.ensures) (turned_table id site c.of-turns.result refl c.in_ok-words.ensures.room) in
+    let planned = subst (λ (p : TablePlan). IsTableOf site.layout.mode true id site p) (sym c.in_turns.ensures) (turned_table id site c.of-turns.result refl c.of-turns.ensures.may c.in_ok-words.ensures.room) in
     let table = subst (λ (s : Site). IsTableOf mode true id s c.in_turns.result) (sym c.in_ok-words.ensures.key) (subst (λ (m : Mode). IsTableOf m true id site c.in_turns.result) c.requires.mode planned) in
     (table, rw c.in_turns.ensures c.requires.some.0, c.in_ok-words.ensures.table.0, c.requires.some.1, λ once. absurd (let never : true ≡ false = once in cc))
 

@@ -1,4 +1,4 @@
-use Rattle.std.proofs.Common.{◌≡◌, ◌<◌, ◌≤◌, ◌+◌, ◌*◌, ◌∙◌, ℕ, List, [], Option, Some, sym, ap, subst, arith, length, slice_index}
+use Rattle.std.proofs.Common.{◌≡◌, ◌<◌, ◌≤◌, ◌+◌, ◌*◌, ◌∙◌, ℕ, List, [], Option, sym, ap, subst, arith, length, slice_index}
 use Rattle.atomic_table.specs.Table.{opening}
 use Rattle.arena.proofs.Lemmas.{place_inside}
 use Rattle.arena.specs.Lawful.{Lawful}
