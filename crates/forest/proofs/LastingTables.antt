@@ -21,7 +21,7 @@ use Rattle.prims.proofs.Lemmas.{none_taken, whole_untouched}
 use Rattle.prims.specs.Shares.{IsShare, share_end}
 use Rattle.slots.specs.Lasting.{IsLasting, Lasting, table_place}
 use Rattle.forest.specs.LastingOpening.{first_memory}
-use Rattle.forest.specs.LastingTables.{HasRoom, MayTurn, first_share}
+use Rattle.forest.specs.LastingTables.{HasWordsFor, MayTakeTurns, first_share}
 use Rattle.forest.specs.Shares.{EndsAsDealt, HasFewNames, IsBetweenCalls}
 use Rattle.forest.specs.Slotted.{in_turns, names_for, slots_by}
 use Rattle.forest.specs.TablePlans.{HasMasks, IsTableOf}
@@ -30,18 +30,18 @@ use Rattle.forest.specs.declared.rule.Turns.{Turns}
 use Rattle.forest.specs.declared.table_plan.TablePlan.{TablePlan}
 
 -- the digits of a number tell those below it apart, and one digit fewer does not
-pub bits_enough : (count : ℕ) → count < 2 ^ 29 → (let bits : ℕ = 32 - count_leading_zeros 32 count in (count ≤ 2 ^ bits) × (2 ^ bits ≤ 2 * count + 1) × (bits ≤ 29))
-bits_enough count few =
-    let t = leading_length 29 count few in
-    let same : 32 - t.0 ≡ count_leading_zeros 32 count = leading_unique 32 count (32 - t.0) t.0 (omega (arith, t.1)) t.2 t.3 in
-    let bits : 32 - count_leading_zeros 32 count ≡ t.0 = omega (arith, same, t.1) in
+pub bits_enough : (count k : ℕ) → k ≤ 32 → count < 2 ^ k → (let bits : ℕ = 32 - count_leading_zeros 32 count in (count ≤ 2 ^ bits) × (2 ^ bits ≤ 2 * count + 1) × (bits ≤ k))
+bits_enough count k few less =
+    let t = leading_length k count less in
+    let same : 32 - t.0 ≡ count_leading_zeros 32 count = leading_unique 32 count (32 - t.0) t.0 (omega (arith, few, t.1)) t.2 t.3 in
+    let bits : 32 - count_leading_zeros 32 count ≡ t.0 = omega (arith, few, same, t.1) in
     (rw bits (omega (arith, t.2)), rw bits t.3, omega (arith, bits, t.1))
 
 -- that many laps of the wider turns, or of others, are numbers that fit
 laps_fit : (a m : ℕ) → a ≤ m → m ≤ 29 → 2 ^ (49 - m) * 2 ^ a ≤ 2 ^ 49
 laps_fit a m less few = subst (λ k. k ≤ 2 ^ 49) (pow-add 2 (49 - m) a) (pow_mono {j = 49} (omega (arith, less, few)))
 
-pub turns_fit : (lay : Layout) (nodes scx most laps : ℕ) → all_nodes lay ≤ 2 ^ nodes → all_scx lay ≤ 2 ^ scx → nodes ≤ 29 → scx ≤ 29 → nodes ≤ most → scx ≤ most → most ≤ 29 → laps ≡ 2 ^ (49 - most) → MayTurn lay record { node_bits = nodes; scx_bits = scx; laps = laps }
+pub turns_fit : (lay : Layout) (nodes scx most laps : ℕ) → all_nodes lay ≤ 2 ^ nodes → all_scx lay ≤ 2 ^ scx → nodes ≤ 26 → scx ≤ 29 → nodes ≤ most → scx ≤ most → most ≤ 29 → laps ≡ 2 ^ (49 - most) → MayTakeTurns lay record { node_bits = nodes; scx_bits = scx; laps = laps }
 turns_fit lay nodes scx most laps node_room scx_room few_nodes few_scx under_nodes under_scx few are = record {
   nodes = node_room;
   scx = scx_room;
@@ -56,7 +56,7 @@ turns_fit lay nodes scx most laps node_room scx_room few_nodes few_scx under_nod
 names_are_all : (slots more : ℕ) → slots ≤ 32768 → more ≤ 2 ^ 49 → min (slots + more) (2 ^ 50) ≡ slots + more
 names_are_all slots more few less = min-eq_left (omega (arith, few, less))
 
-module _ (lay : Layout) (t : Turns) (few : HasFewNames lay) (may : MayTurn lay t) where
+module _ (lay : Layout) (t : Turns) (few : HasFewNames lay) (may : MayTakeTurns lay t) where
   pub node_names_are : names_for lay.nodes t.laps (2 ^ t.node_bits) ≡ lay.nodes + t.laps * 2 ^ t.node_bits
   node_names_are = names_are_all lay.nodes (t.laps * 2 ^ t.node_bits) few.0 may.node_names
 
@@ -88,7 +88,7 @@ times_less : (a k turn : ℕ) → k < turn → a * k + a ≤ a * turn
 times_less a k turn less = grind arith
 
 -- each word of a record that has a name is one of so many
-inside_turns : (lay : Layout) (t : Turns) (words : ℕ) → HasRoom lay t words → (w : Word) → IsWord (in_turns lay t).lay w → table_place (in_turns lay t) w < words
+inside_turns : (lay : Layout) (t : Turns) (words : ℕ) → HasWordsFor lay t words → (w : Word) → IsWord (in_turns lay t).lay w → table_place (in_turns lay t) w < words
 inside_turns lay t words room (Node n part) i =
     let turn = mod-lt n.0 (pow_pos t.node_bits) in
     let below = times_less (node_size lay.mode) (n.0 % 2 ^ t.node_bits) (2 ^ t.node_bits) turn in
@@ -102,11 +102,11 @@ inside_turns lay t words room (Scx s part) i =
     omega (arith, turn, within, enough)
 
 -- So the words lie as a plan says that has the masks of these bits.
-pub turned_table : (id : TableId) (site : Site) (t : Turns) → site.turns ≡ Some t → t.node_bits ≤ 26 → HasRoom site.layout t id.words → IsTableOf site.layout.mode true id site record { layout = site.layout; node_mask = 2 ^ t.node_bits - 1; scx_mask = 2 ^ t.scx_bits - 1 }
-turned_table id site t turns low room = record {
+pub turned_table : (id : TableId) (site : Site) (t : Turns) → site.turns ≡ Some t → MayTakeTurns site.layout t → HasWordsFor site.layout t id.words → IsTableOf site.layout.mode true id site record { layout = site.layout; node_mask = 2 ^ t.node_bits - 1; scx_mask = 2 ^ t.scx_bits - 1 }
+turned_table id site t turns may room = record {
   mode_is = refl;
   layout = refl;
-  masks = subst (λ (o : Option Turns). HasMasks true o plan) (sym turns) (low, refl, refl);
+  masks = subst (λ (o : Option Turns). HasMasks true o plan) (sym turns) (may.node_bits, refl, refl);
   inside = subst (λ (o : Option Turns). (w : Word) → IsWord (slots_by site.layout o).lay w → table_place (slots_by site.layout o) w < id.words) (sym turns) (inside_turns site.layout t id.words room);
   few = room.few;
 }
@@ -115,7 +115,7 @@ turned_table id site t turns low room = record {
     plan = record { layout = site.layout; node_mask = 2 ^ t.node_bits - 1; scx_mask = 2 ^ t.scx_bits - 1 }
 
 -- At the start a pass that has its names of the first lap is at rest.
-pub begins_in_turns : (lay : Layout) (t : Turns) (o : Opening) (c : ℕ) → HasFewNames lay → MayTurn lay t → Lawful (in_turns lay t).lay (Opened o) → IsBetweenCalls (in_turns lay t).lay c (Opened o) (first_share (in_turns lay t) c)
+pub begins_in_turns : (lay : Layout) (t : Turns) (o : Opening) (c : ℕ) → HasFewNames lay → MayTakeTurns lay t → Lawful (in_turns lay t).lay (Opened o) → IsBetweenCalls (in_turns lay t).lay c (Opened o) (first_share (in_turns lay t) c)
 begins_in_turns lay t o c few may lawful = record {
   share = record {
     from_node = omega arith;

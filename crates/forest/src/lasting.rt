@@ -1,14 +1,14 @@
 //! Dictionaries whose records come back.
-ghost use Rattle.std.specs.Prelude.{◌≡◌, ◌<◌, ◌≤◌, ℕ, [], IfOk};
+ghost use Rattle.std.specs.Prelude.{◌≡◌, ◌<◌, ◌^◌, ℕ, [], IfOk};
 ghost use Rattle.arena.specs.History.{Opened};
-ghost use Rattle.arena.specs.Layout.{IsMap};
+ghost use Rattle.arena.specs.Layout.{IsMap, all_nodes};
 ghost use Rattle.arena.specs.Machines.{IsRun};
 ghost use Rattle.planting.specs.Plantings.{opening_for};
 ghost use Rattle.template.specs.Balance.{map_mode};
 ghost use Rattle.dict.specs.Typed.{TypedAllows};
 ghost use Rattle.dict.specs.Words.{IsWordOf};
 ghost use Rattle.forest.specs.LastingOpening.{first_view};
-ghost use Rattle.forest.specs.LastingTables.{AreNewIn, MayTurn};
+ghost use Rattle.forest.specs.LastingTables.{AreNewIn, MayTakeTurns, OpensInTurns};
 ghost use Rattle.forest.specs.Passes.{ground};
 ghost use Rattle.forest.specs.Seats.{IsSeatAt};
 ghost use Rattle.forest.specs.Shares.{HasFewNames};
@@ -61,12 +61,11 @@ impl<B: FixedBalance> Keeping for Lasts<B> {
 }
 
 impl<K: WordKey, V: WordValue, B: FixedBalance> Forest<Dict<K, V, Lasts<B>>> {
-    /// A table as it is at the start, with what is planted in it, whose slots are taken in these
-    /// turns, and a pass for each client. The only error is want of memory.
+    /// A table as it is at the start, with what is planted in it, whose records come back, and a
+    /// pass for each client. The only error is want of memory.
     pub(crate) fn with_turns(
         alloc: Global,
         plot: Plot,
-        turns: Turns,
         tries: u32,
     ) -> Result<
         (
@@ -77,25 +76,24 @@ impl<K: WordKey, V: WordValue, B: FixedBalance> Forest<Dict<K, V, Lasts<B>>> {
     >
         requires mode { plot.layout.mode ≡ map_mode (B.trie B.the) }
         requires few { HasFewNames plot.layout }
-        requires may { MayTurn plot.layout turns }
-        requires low { turns.node_bits ≤ 26 }
+        requires room { all_nodes plot.layout < 2 ^ 26 }
         requires some { (0 < plot.layout.passes) × (0 < tries) }
         requires planting { plot.planting.mode ≡ plot.layout.mode }
         requires run { IsRun (TypedAllows (IsWordOf K.is_valid K.word_of) (IsWordOf V.is_valid V.word_of))
             plot.layout (Opened (opening_for plot.planting)) }
-        ensures layout { IfOk result (λ r. (r.0.layout ≡ (in_turns plot.layout turns).lay)
-            × (r.0.tries ≡ tries)) }
+        ensures opens { IfOk result (λ r. OpensInTurns plot.layout r.0 r.1.items) }
         ensures planting { IfOk result (λ r. r.0.planting ≡ plot.planting) }
-        ensures passes { IfOk result (λ r. AreNewIn (in_turns plot.layout turns) r.0 r.1.items) }
+        ensures tries { IfOk result (λ r. r.0.tries ≡ tries) }
     {
         let Plot { layout, planting } = plot;
+        let turns = Turns::of(&layout);
         let site = Site {
             layout,
             planting,
             turns: Some(turns),
         };
         let (words, seat) = Words::open_in_turns(alloc, &site, turns)?;
-        let passes = pass_all(alloc, &words, &layout, turns, seat)?;
+        let passes = passes_in_turns(alloc, &words, &layout, turns, seat)?;
         let forest = Forest {
             words,
             plan: TablePlan::in_turns(layout, turns),
@@ -107,7 +105,7 @@ impl<K: WordKey, V: WordValue, B: FixedBalance> Forest<Dict<K, V, Lasts<B>>> {
 }
 
 /// A pass for each of a seat's.
-fn pass_all<S: TableShape>(
+fn passes_in_turns<S: TableShape>(
     alloc: Global,
     words: &Words<S>,
     layout: &Layout,
@@ -117,7 +115,7 @@ fn pass_all<S: TableShape>(
     requires mode { layout.now.mode ≡ S.mode }
     requires map { IsMap S.mode }
     requires few { HasFewNames layout.now }
-    requires may { MayTurn layout.now turns }
+    requires may { MayTakeTurns layout.now turns }
     requires table { IsSeatAt words.now seat }
     requires seat { (seat.me.0 ≡ first_view (in_turns layout.now turns) words.now.table.shared.key.planting)
         × (seat.me.1 ≡ []) }

@@ -1,21 +1,21 @@
 //! How many words a table has whose records come back.
 ghost use Rattle.std.specs.Prelude.{◌≡◌, ◌<◌, ◌≤◌, ℕ, length, slice_index, IfOk, vec_len};
-ghost use Rattle.forest.specs.LastingTables.{HasRoom, MayTurn};
+ghost use Rattle.forest.specs.LastingTables.{HasWordsFor, MayTakeTurns};
 
-use crate::rule::{Turns, power};
+use crate::rule::{Turns, power_of_two};
 use arena::{Layout, NoMemory};
 use std::alloc::Global;
 
 /// So many words that each name's word has a place, and each pass a line of the cache in which its
 /// rests are counted.
 pub(crate) fn size_in_turns(layout: &Layout, turns: &Turns) -> usize
-    requires { MayTurn layout.now turns.now }
-    ensures { HasRoom layout.now turns.now result }
+    requires { MayTakeTurns layout.now turns.now }
+    ensures { HasWordsFor layout.now turns.now result }
 {
     let size = layout.mode.node_size();
     let nodes = size * layout.all_nodes() as usize;
-    let named_nodes = size * power(turns.node_bits) as usize;
-    let named_scx = nodes + 14 * power(turns.scx_bits) as usize;
+    let named_nodes = size * power_of_two(turns.node_bits) as usize;
+    let named_scx = nodes + 14 * power_of_two(turns.scx_bits) as usize;
     let rests = nodes + 14 * layout.all_scx() as usize + 8 * layout.passes as usize;
     named_nodes.max(named_scx).max(rests)
 }

@@ -6,7 +6,7 @@ ghost use Rattle.arena.specs.History.{Opened};
 ghost use Rattle.arena.specs.Machines.{IsRun};
 ghost use Rattle.planting.specs.Plantings.{opening_for};
 ghost use Rattle.forest.specs.LastingOpening.{first_memory};
-ghost use Rattle.forest.specs.LastingTables.{MayTurn, first_share};
+ghost use Rattle.forest.specs.LastingTables.{MayTakeTurns, first_share};
 ghost use Rattle.forest.specs.Slotted.{in_turns};
 ghost use Rattle.forest.specs.TableRule.{all_dealt, seated_pass};
 ghost use Rattle.forest.specs.Traces.{planting_of};
@@ -121,7 +121,7 @@ impl<S: TableShape> Pass<S> {
         requires mode { layout.now.mode ≡ S.mode }
         requires map { IsMap S.mode }
         requires few { HasFewNames layout.now }
-        requires may { MayTurn layout.now turns }
+        requires may { MayTakeTurns layout.now turns }
         ensures { IfOk result (λ pass. pass
             ≡ record {
               table = seat.table_id;

@@ -1,5 +1,5 @@
 //! The rule of the table, and what a step shows the seat that makes it.
-ghost use Rattle.std.specs.Prelude.{◌≡◌, ◌≤◌, ◌<◌, ◌+◌, ◌*◌, ◌^◌, []};
+ghost use Rattle.std.specs.Prelude.{◌≡◌, ◌≤◌, ◌<◌, ◌+◌, ◌*◌, ◌^◌, ℕ, []};
 ghost use Rattle.forest.specs.Ruled.{IsRuled, first_of_table};
 ghost use Rattle.forest.specs.TableRule.{Made, Looked, seat_view, rest_of_seat, first_of_seat, joined_seat};
 
@@ -42,13 +42,14 @@ pub struct Turns {
 impl Turns {
     ghost use Rattle.std.specs.Prelude.{◌≡◌, ◌<◌, ◌≤◌, ◌*◌, ◌+◌, ◌^◌};
     ghost use Rattle.arena.specs.Layout.{all_nodes, all_scx, first_node, first_scx};
-    ghost use Rattle.forest.specs.LastingTables.{MayTurn};
+    ghost use Rattle.forest.specs.LastingTables.{MayTakeTurns};
     ghost use Rattle.forest.specs.Shares.{HasFewNames};
     ghost use Rattle.forest.specs.Slotted.{in_turns};
 
     /// As few bits as tell the records of this table apart, and as many laps as numbers allow.
     pub(crate) fn of(layout: &Layout) -> Turns
-        ensures may { MayTurn layout.now result }
+        requires { all_nodes layout.now < 2 ^ 26 }
+        ensures may { MayTakeTurns layout.now result }
         ensures narrow { (2 ^ result.node_bits ≤ 2 * all_nodes layout.now + 1)
             × (2 ^ result.scx_bits ≤ 2 * all_scx layout.now + 1) }
     {
@@ -57,13 +58,13 @@ impl Turns {
         Turns {
             node_bits,
             scx_bits,
-            laps: power(49 - node_bits.max(scx_bits)),
+            laps: power_of_two(49 - node_bits.max(scx_bits)),
         }
     }
 
     /// The first name that a pass has for nodes.
     pub(crate) fn first_node(&self, layout: &Layout, pass: PassNo) -> NodeNo
-        requires may { MayTurn layout.now self.now }
+        requires may { MayTakeTurns layout.now self.now }
         requires few { HasFewNames layout.now }
         requires pass { pass.0 < layout.now.passes }
         ensures is { result.0 ≡ first_node (in_turns layout.now self.now).lay pass.0 }
@@ -75,7 +76,7 @@ impl Turns {
 
     /// The first that it has for SCX-records.
     pub(crate) fn first_scx(&self, layout: &Layout, pass: PassNo) -> ScxNo
-        requires may { MayTurn layout.now self.now }
+        requires may { MayTakeTurns layout.now self.now }
         requires few { HasFewNames layout.now }
         requires pass { pass.0 < layout.now.passes }
         ensures is { result.0 ≡ first_scx (in_turns layout.now self.now).lay pass.0 }
@@ -88,10 +89,9 @@ impl Turns {
 
 /// By how many bits so many numbers are told apart.
 fn bits_for(count: u32) -> u32
-    requires { count < 2 ^ 29 }
     ensures enough { count ≤ 2 ^ result }
     ensures narrow { 2 ^ result ≤ 2 * count + 1 }
-    ensures few { result ≤ 29 }
+    ensures few { (bits : ℕ) → bits ≤ 32 → count < 2 ^ bits → result ≤ bits }
 {
     32 - count.leading_zeros()
 }
@@ -104,11 +104,11 @@ fn names_of(slots: u32, laps: u64, bits: u32) -> u64
     ensures names { result ≡ slots + laps * 2 ^ bits }
     ensures few { result ≤ 2 ^ 50 }
 {
-    u64::from(slots) + laps * power(bits)
+    u64::from(slots) + laps * power_of_two(bits)
 }
 
 /// 2 to this power.
-pub(crate) fn power(bits: u32) -> u64
+pub(crate) fn power_of_two(bits: u32) -> u64
     requires { bits < 64 }
     ensures { result ≡ 2 ^ bits }
 {

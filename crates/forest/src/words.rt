@@ -12,7 +12,7 @@ ghost use Rattle.planting.specs.Plantings.{opening_for};
 ghost use Rattle.forest.specs.declared.view.SeatedPass.{SeatedPass};
 ghost use Rattle.forest.specs.LastingOpening.{first_view};
 ghost use Rattle.forest.specs.LastingRule.{MayStepOn};
-ghost use Rattle.forest.specs.LastingTables.{HasRoom, MayTurn};
+ghost use Rattle.forest.specs.LastingTables.{HasWordsFor, MayTakeTurns};
 ghost use Rattle.forest.specs.Ruled.{IsRuled, MayLast};
 ghost use Rattle.forest.specs.Shares.{HasFewNames};
 ghost use Rattle.forest.specs.Slotted.{in_turns, names_of_table, plot_at};
@@ -70,7 +70,7 @@ impl<S: Shape> Words<S> {
         requires turns { site.now.turns ≡ Some turns }
         requires mode { site.now.planting.mode ≡ site.now.layout.mode }
         requires few { HasFewNames site.now.layout }
-        requires may { MayTurn site.now.layout turns }
+        requires may { MayTakeTurns site.now.layout turns }
         requires run { IsRun S.allows (names_of_table site.now) (Opened (opening_for site.now.planting)) }
         requires map { IsMapRun (names_of_table site.now) (Opened (opening_for site.now.planting)) }
         ensures key { IfOk result (λ w. w.0.table.shared.key ≡ site.now) }
@@ -78,7 +78,7 @@ impl<S: Shape> Words<S> {
             (λ w. (w.0.table.shared.table_id.slots ≡ 0)
             × (w.1.table_id ≡ w.0.table.shared.table_id)) }
         ensures room { IfOk result
-            (λ w. HasRoom site.now.layout turns w.0.table.shared.table_id.words) }
+            (λ w. HasWordsFor site.now.layout turns w.0.table.shared.table_id.words) }
         ensures seat { IfOk result
             (λ w. (w.1.me.0 ≡ first_view (in_turns site.now.layout turns) site.now.planting)
             × (w.1.me.1 ≡ [])) }

@@ -1,4 +1,4 @@
-use Rattle.std.proofs.Common.{◌≡◌, ◌<◌, ◌≤◌, ◌+◌, ◌*◌, ◌∙◌, ℕ, List, [], Option, Some, sym, ap, subst, arith, length, slice_index}
+use Rattle.std.proofs.Common.{◌≡◌, ◌<◌, ◌≤◌, ◌+◌, ◌*◌, ◌∙◌, ℕ, List, [], Option, sym, ap, subst, arith, length, slice_index}
 use Rattle.atomic_table.specs.Table.{opening}
 use Rattle.arena.proofs.Lemmas.{place_inside}
 use Rattle.arena.specs.Lawful.{Lawful}
@@ -6,7 +6,7 @@ use Rattle.histories.specs.Common.{Layout, Word, History, Opened, IsRun, IsWord,
 use Rattle.ordered_map.specs.Runs.{IsMapRun}
 use Rattle.planting.specs.Plantings.{PlantingView, opening_for}
 use Rattle.forest.specs.LastingOpening.{OpensLasting}
-use Rattle.forest.specs.LastingTables.{HasRoom, MayTurn}
+use Rattle.forest.specs.LastingTables.{HasWordsFor, MayTakeTurns}
 use Rattle.forest.specs.Ruled.{IsRuled, first_by, first_of_table, ruled_by}
 use Rattle.forest.specs.Shares.{HasFewNames}
 use Rattle.forest.specs.Slotted.{in_turns, slots_by}
@@ -20,7 +20,7 @@ unfolding Lawful
 words-requires-clause-room g c = subst (λ (o : Option Turns). (opening_for c.args.site.now.planting).planted ≤ (slots_by c.args.site.now.layout o).lay.planted) c.requires.turns c.requires.run.lawful.1
 
 -- the words of the planting, and zeros behind them, are those with which a table that lasts opens
-opens : (allows : Layout → History → ℕ → Type 0) (lay : Layout) (t : Turns) (planting : PlantingView) (first words : List ℕ) → HasFewNames lay → MayTurn lay t → HasRoom lay t (length words) → IsMapRun (in_turns lay t).lay (Opened (opening_for planting)) → IsRun allows (in_turns lay t).lay (Opened (opening_for planting))
+opens : (allows : Layout → History → ℕ → Type 0) (lay : Layout) (t : Turns) (planting : PlantingView) (first words : List ℕ) → HasFewNames lay → MayTakeTurns lay t → HasWordsFor lay t (length words) → IsMapRun (in_turns lay t).lay (Opened (opening_for planting)) → IsRun allows (in_turns lay t).lay (Opened (opening_for planting))
     → length first ≡ table_size lay → ((w : Word) → IsWord lay w → slice_index first (place lay w) ≡ (opening_for planting).words w) → ((k : ℕ) → k < length first → slice_index words k ≡ slice_index first k) → ((k : ℕ) → length first ≤ k → k < length words → slice_index words k ≡ 0)
     → OpensLasting allows (in_turns lay t) planting words
 unfolding value
@@ -43,7 +43,7 @@ of_words-requires g c =
     let first = c.words-2 in
     let wide = c.in_ok-words.ensures in
     let all = c.in_ok-words.words.items in
-    let opened : OpensLasting allows (in_turns site.layout t) site.planting all = opens allows site.layout t site.planting first.result.now all c.requires.few c.requires.may (subst (HasRoom site.layout t) (sym wide.size) c.size_in_turns.ensures)
+    let opened : OpensLasting allows (in_turns site.layout t) site.planting all = opens allows site.layout t site.planting first.result.now all c.requires.few c.requires.may (subst (HasWordsFor site.layout t) (sym wide.size) c.size_in_turns.ensures)
     (subst (λ (o : Option Turns). IsMapRun (slots_by site.layout o).lay (Opened (opening_for site.planting))) turns c.requires.map)
     (subst (λ (o : Option Turns). IsRun allows (slots_by site.layout o).lay (Opened (opening_for site.planting))) turns c.requires.run)
     (first.ensures.size ∙ ap table_size laid.layout)

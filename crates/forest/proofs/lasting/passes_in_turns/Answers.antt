@@ -1,4 +1,4 @@
-use Rattle.std.proofs.Common.{rules, ◌≡◌, ◌<◌, ◌+◌, ◌-◌, ◌∙◌, ℕ, [], ◌∷◌, List, slice_get, sym, ap, subst, arith}
+use Rattle.std.proofs.Common.{rules, ◌≡◌, ◌<◌, ◌+◌, ◌-◌, ◌∙◌, ℕ, [], ◌∷◌, List, Some, slice_get, sym, ap, subst, arith}
 use Rattle.atomic_table.specs.Seated.{TableId}
 use Rattle.histories.specs.Common.{Opened, IsRun}
 use Rattle.planting.specs.Plantings.{PlantingView, opening_for}
@@ -14,7 +14,7 @@ use Rattle.forest.specs.Traces.{planting_of}
 use Rattle.forest.specs.declared.view.SeatView.{SeatView}
 use Rattle.forest.specs.declared.view.SeatedPass.{SeatedPass}
 use Rattle.forest.proofs.Openings.{first_with, rest_with}
-use Rattle.forest.proofs.lasting.pass_all.Goals as goal
+use Rattle.forest.proofs.lasting.passes_in_turns.Goals as goal
 
 pub loop-number-init : goal.loop-number-init
 loop-number-init g c = record {
@@ -60,7 +60,7 @@ loop-number-preserved g c =
           (search rules)
           (c.loop-number.invariant.each tries)
           (made_of t c.deal-own.result.table_id c.args.words.now.table.shared.table_id (planting_of c.deal-own.result.me.0.passes) planting tries c.loop-number.number c.in_ok-pass.pass c.in_ok-pass.ensures (c.deal-own.ensures.table.1 ∙ c.loop-number.invariant.table) (ap planting_of own))
-          j d (sym (ap (λ l. slice_get l j) c.in_ok-push.ensures.items) ∙ get);
+          j d (subst (λ (l : List PassView). slice_get l j ≡ Some d) c.in_ok-push.ensures.items get);
       table = c.deal-own.ensures.table.0 ∙ c.loop-number.invariant.table;
       bare = c.deal-own.ensures.bare.0 ∙ c.loop-number.invariant.bare;
       left = remaining t planting c.loop-number.number c.loop-number.seat.me.0.passes c.deal-own.new.seat.me.0.passes c.deal-own.ensures.passes.0 c.loop-number.invariant.left (search rules);

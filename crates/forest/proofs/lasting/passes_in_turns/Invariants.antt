@@ -5,7 +5,7 @@ use Rattle.forest.specs.LastingTables.{new_pass_in}
 use Rattle.forest.specs.Passes.{PassView, ground}
 use Rattle.forest.specs.Slotted.{in_turns}
 use Rattle.forest.specs.TableRule.{passes_with}
-use Rattle.forest.proofs.lasting.pass_all.Given as goal
+use Rattle.forest.proofs.lasting.passes_in_turns.Given as goal
 
 abbrev pub invariant-loop-number : goal.invariant-loop-number
 invariant-loop-number g l = record {
