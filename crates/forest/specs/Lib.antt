@@ -44,3 +44,4 @@ pub mod UpkeepPeriod
 pub mod UpkeepBook
 pub mod UpkeepDeals
 pub mod UpkeepScx
+pub mod UpkeepOpening
