@@ -71,3 +71,4 @@ mod UpkeepShares
 mod UpkeepDeals
 mod UpkeepDealt
 mod UpkeepScx
+mod UpkeepOpening
