@@ -77,3 +77,4 @@ mod UpkeepFirst
 mod Rested
 mod UpkeepScx
 mod UpkeepSet
+mod UpkeepOpening

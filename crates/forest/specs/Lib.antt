@@ -50,3 +50,4 @@ pub mod UpkeepDeals
 pub mod UpkeepKeeper
 pub mod Rests
 pub mod UpkeepScx
+pub mod UpkeepOpening

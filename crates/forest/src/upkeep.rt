@@ -23,6 +23,7 @@ pub(crate) mod kept;
 pub(crate) mod kind;
 pub(crate) mod looks;
 pub(crate) mod names;
+pub(crate) mod open;
 pub(crate) mod part;
 pub(crate) mod period;
 pub(crate) mod scx;

@@ -2,6 +2,7 @@ use Rattle.std.proofs.Common.{◌≡◌, ◌∙◌, true, false, ap, sym, refl}
 use Rattle.histories.specs.Common.{Layout}
 use Rattle.forest.specs.Opened.{OpenView}
 use Rattle.forest.specs.Passes.{Ground, IsOf, PassView}
+use Rattle.forest.specs.Traces.{layout_at}
 use Rattle.forest.proofs.Passes.{layout_of}
 use Rattle.forest.proofs.OpenSteps.{open_asks, open_host, open_waits, same_call, stays_lawful, stays_open, is_answered, differ, step_keeps, step_later}
 use Rattle.forest.proofs.open.OpenCall.step.Goals as goal
@@ -17,13 +18,13 @@ pub advance-requires-clause-waits : goal.advance-requires-clause-waits
 advance-requires-clause-waits g c = (open_host g.K.WordKey.is_valid g.K.WordKey.word_of g.V.WordValue.is_valid g.V.WordValue.word_of c.self.inside c.self.invariant.0 c.in-Ask.step c.in-Ask.is _ (of_forest refl (ap (λ (o : OpenView). o.began) c.self.view_is) c.forest.view_is c.requires.forest), open_waits g.K.WordKey.is_valid g.K.WordKey.word_of g.V.WordValue.is_valid g.V.WordValue.word_of c.self.inside c.self.invariant.0 c.in-Ask.step c.in-Ask.is)
 
 pub invariant_of-self-in-Ask-turn : goal.invariant_of-self-in-Ask-turn
-invariant_of-self-in-Ask-turn g c = (stays_open g.K.WordKey.is_valid g.K.WordKey.word_of g.V.WordValue.is_valid g.V.WordValue.word_of c.self.inside c.self.invariant.0 c.in-Ask.step c.in-Ask.is _ (of_forest refl (ap (λ (o : OpenView). o.began) c.self.view_is) c.forest.view_is c.requires.forest) c.advance.new.seat c.advance.new.machine c.advance.result c.advance.ensures.table.0 c.advance.ensures.table.1 c.advance.ensures.one c.advance.ensures.stands c.advance.ensures.nearer c.self.inside.over (λ e. absurd (differ (sym e ∙ goes))) (λ e. rw c.in-Ask-turn.is tt), λ lasts. step_keeps c.self.inside.kept c.self.inside.number.0 _ c.self.inside.seat.me.0.passes c.advance.new.seat.me.0.passes c.advance.ensures.table.2 (step_later _ _ _ _ _ c.advance.ensures.table.2 c.advance.ensures.row.0 c.advance.ensures.row.1 c.advance.ensures.row.2) (c.self.invariant.1 lasts))
+invariant_of-self-in-Ask-turn g c = (stays_open g.K.WordKey.is_valid g.K.WordKey.word_of g.V.WordValue.is_valid g.V.WordValue.word_of c.self.inside c.self.invariant.0 c.in-Ask.step c.in-Ask.is _ (of_forest refl (ap (λ (o : OpenView). o.began) c.self.view_is) c.forest.view_is c.requires.forest) c.advance.new.seat c.advance.new.machine c.advance.result c.advance.ensures.table.0 c.advance.ensures.table.1 c.advance.ensures.one c.advance.ensures.stands c.advance.ensures.nearer c.self.inside.over (λ e. absurd (differ (sym e ∙ goes))) (λ e. rw c.in-Ask-turn.is tt), λ lasts. step_keeps c.self.inside.kept c.self.inside.number.0 (layout_at c.self.inside.birth.value.me.0.passes) c.self.inside.seat.me.0.passes c.advance.new.seat.me.0.passes c.advance.ensures.table.2 (step_later c.self.inside.seat.me.0.passes c.advance.new.seat.me.0.passes _ _ _ c.advance.ensures.table.2 c.advance.ensures.row.0 c.advance.ensures.row.1 c.advance.ensures.row.2) (c.self.invariant.1 lasts))
   where
     goes : c.self.inside.over ≡ false
     goes = rw (← c.self.view_is) at c.requires.goes
 
 pub invariant_of-self-in-Done : goal.invariant_of-self-in-Done
-invariant_of-self-in-Done g c = (stays_open g.K.WordKey.is_valid g.K.WordKey.word_of g.V.WordValue.is_valid g.V.WordValue.word_of c.self.inside c.self.invariant.0 c.in-Ask.step c.in-Ask.is _ (of_forest refl (ap (λ (o : OpenView). o.began) c.self.view_is) c.forest.view_is c.requires.forest) c.advance.new.seat c.advance.new.machine c.advance.result c.advance.ensures.table.0 c.advance.ensures.table.1 c.advance.ensures.one c.advance.ensures.stands c.advance.ensures.nearer true (λ e. rw c.in-Done.is tt) (λ e. absurd (differ e)), λ lasts. step_keeps c.self.inside.kept c.self.inside.number.0 _ c.self.inside.seat.me.0.passes c.advance.new.seat.me.0.passes c.advance.ensures.table.2 (step_later _ _ _ _ _ c.advance.ensures.table.2 c.advance.ensures.row.0 c.advance.ensures.row.1 c.advance.ensures.row.2) (c.self.invariant.1 lasts))
+invariant_of-self-in-Done g c = (stays_open g.K.WordKey.is_valid g.K.WordKey.word_of g.V.WordValue.is_valid g.V.WordValue.word_of c.self.inside c.self.invariant.0 c.in-Ask.step c.in-Ask.is _ (of_forest refl (ap (λ (o : OpenView). o.began) c.self.view_is) c.forest.view_is c.requires.forest) c.advance.new.seat c.advance.new.machine c.advance.result c.advance.ensures.table.0 c.advance.ensures.table.1 c.advance.ensures.one c.advance.ensures.stands c.advance.ensures.nearer true (λ e. rw c.in-Done.is tt) (λ e. absurd (differ e)), λ lasts. step_keeps c.self.inside.kept c.self.inside.number.0 (layout_at c.self.inside.birth.value.me.0.passes) c.self.inside.seat.me.0.passes c.advance.new.seat.me.0.passes c.advance.ensures.table.2 (step_later c.self.inside.seat.me.0.passes c.advance.new.seat.me.0.passes _ _ _ c.advance.ensures.table.2 c.advance.ensures.row.0 c.advance.ensures.row.1 c.advance.ensures.row.2) (c.self.invariant.1 lasts))
 
 pub returns-in-Ask-turn-clause-same : goal.returns-in-Ask-turn-clause-same
 returns-in-Ask-turn-clause-same g c = rw (← c.self.view_is) (let e = same_call g.K.WordKey.is_valid g.K.WordKey.word_of g.V.WordValue.is_valid g.V.WordValue.word_of c.self.inside c.self.invariant.0 c.in-Ask.step c.in-Ask.is _ (of_forest refl (ap (λ (o : OpenView). o.began) c.self.view_is) c.forest.view_is c.requires.forest) c.advance.new.seat c.advance.new.machine c.advance.result c.advance.ensures.table.0 c.advance.ensures.table.1 c.advance.ensures.one c.advance.ensures.stands in record { began = refl; call = e.0; tries = e.1 })

@@ -27,8 +27,8 @@ waits_below g c w x = to_head w _ c.args.way c.args.goal c.args.place.trail c.ar
 pub read-child-requires-clause-waits : goal.read-child-requires-clause-waits
 read-child-requires-clause-waits g c = let r = c.requires.waits in (r.0, way_at c.args.way c.args.goal c.args.place.trail (Child (head_of c.args.word).level c.args.side), c.args.place.turns, r.1)
 
-pub start_for-start-requires : goal.start_for-start-requires
-start_for-start-requires g c = let r = c.requires.waits in waits_within r.0 _ g.met.M.Machine.lawful _ _ (waits_below g (goal.at.start_for-start-requires g c).After-read-child r.0 r.1)
+pub start_for-start-requires-clause-node : goal.start_for-start-requires-clause-node
+start_for-start-requires-clause-node g c = let r = c.requires.waits in waits_within r.0 _ g.met.M.Machine.lawful _ _ (waits_below g (goal.at.start_for-start-requires-clause-node g c).After-read-child r.0 r.1)
 
 pub returns-clause-below : goal.returns-clause-below
 returns-clause-below g c = record {
