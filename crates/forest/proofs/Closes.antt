@@ -22,7 +22,7 @@ use Rattle.prims.specs.Shares.{IsShare}
 use Rattle.forest.specs.Shares.{IsBetweenCalls, entries_of}
 use Rattle.forest.specs.Passes.{PassView, IsOn, HoldsOfOwn, IsLook, AreBegun, HasBlamed, HaveLeftShares, IsClosed, run_of, done_of, steps_of}
 use Rattle.forest.specs.JoinedSeats.{IsFrom, IsOneOf, AreIn}
-use Rattle.forest.specs.PassInvariant.{pass_view, IsPass}
+use Rattle.forest.specs.PassInvariant.{pass_view, IsPass, layout_in}
 use Rattle.forest.proofs.Called.{own_others}
 use Rattle.forest.proofs.Advances.{keeps_all, rows_by_others, same_knower}
 use Rattle.prims.proofs.Lemmas.{next_unwon}
@@ -44,15 +44,15 @@ index_is (x ∷ xs) (suc i) a e = index_is xs i a e
 -- a pass that has looked at the table once more
 pub looked_from : {allows : Layout → History → ℕ → Type 0} {mode : Mode} {T : Type 0} (p : Inside T) (x : IsPass allows mode p) (s : Seat ℕ SeatView) (n : ℕ) → s.me.1 ≡ p.seat.me.1 → Made allows look p.seat.me.0.passes n s.me.0.passes → (k : SeatedPass) × (s.me.0.passes ≡ k ∷ []) × IsFrom allows (pass_view p) k
 looked_from {allows} {mode} p x s n bare m = (
-  seated_pass p.number.0 p.layout (planting_of p.seat.me.0.passes) (memory_of s.me.0.passes) (known_of s.me.0.passes),
-  subst (λ b. s.me.0.passes ≡ seated_pass p.number.0 p.layout b (memory_of s.me.0.passes) (known_of s.me.0.passes) ∷ []) planted y.seat.alone,
+  seated_pass p.number.0 (layout_in p) (planting_of p.seat.me.0.passes) (memory_of s.me.0.passes) (known_of s.me.0.passes),
+  subst (λ b. s.me.0.passes ≡ seated_pass p.number.0 (layout_in p) b (memory_of s.me.0.passes) (known_of s.me.0.passes) ∷ []) planted y.seat.alone,
   record {
     is = refl;
     is_pass = x.is_pass;
-    sound = subst (IsRun allows p.layout) now z.sound;
-    rest = subst (λ h. IsBetweenCalls p.layout p.number.0 h p.share) now z.rest;
+    sound = subst (IsRun allows (layout_in p)) now z.sound;
+    rest = subst (λ h. IsBetweenCalls (layout_in p) p.number.0 h p.share) now z.rest;
     ends = subst (λ h. Extends h (run_of (pass_view p))) now y.goes.since;
-    done = subst (λ h. entries_of p.number.0 (log p.layout h) ≡ done_of (pass_view p)) now (called_nothing p s 0 _ y).done;
+    done = subst (λ h. entries_of p.number.0 (log (layout_in p) h) ≡ done_of (pass_view p)) now (called_nothing p s 0 _ y).done;
     steps = look_steps p s (m.others ++ known_of p.seat.me.0.passes) has_looked.behind are;
     looks = subst (λ h. HoldsOfOwn IsLook p.number.0 (run_of (pass_view p)) h) now (look_looks p s (m.others ++ known_of p.seat.me.0.passes) has_looked.behind are);
     blamed = x.blamed;
@@ -60,7 +60,7 @@ looked_from {allows} {mode} p x s n bare m = (
 )
   where
     me : SeatedPass
-    me = seated_pass p.number.0 p.layout (planting_of p.seat.me.0.passes) (memory_of p.seat.me.0.passes) (known_of p.seat.me.0.passes)
+    me = seated_pass p.number.0 (layout_in p) (planting_of p.seat.me.0.passes) (memory_of p.seat.me.0.passes) (known_of p.seat.me.0.passes)
 
     same : m.pass ≡ me
     same = same_knower p.seat.me.0.passes m.pass me m.was x.seat.alone
