@@ -51,3 +51,4 @@ pub mod UpkeepKeeper
 pub mod Rests
 pub mod UpkeepScx
 pub mod UpkeepOpening
+pub mod UpkeepKeeper

@@ -36,7 +36,7 @@ impl<K: WordKey, V: WordValue, B: FixedBalance> Forest<Dict<K, V, Lasts<B>>> {
             layout,
             &mut pass.seat,
             pass.number,
-            &pass.share,
+            &mut pass.share,
         );
         kept.keeper.waits_for()
     }

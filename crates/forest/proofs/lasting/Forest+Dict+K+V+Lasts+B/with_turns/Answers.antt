@@ -11,11 +11,12 @@ use Rattle.forest.specs.LastingOpening.{first_view}
 use Rattle.forest.specs.LastingTables.{AreNewIn}
 use Rattle.forest.specs.Passes.{ground}
 use Rattle.forest.specs.Slotted.{in_turns, names_of_table}
+use Rattle.forest.specs.Shares.{HasFewNames}
 use Rattle.forest.specs.TablePlans.{IsTableOf}
 use Rattle.forest.specs.UpkeepSteps.{IsLastingTable}
 use Rattle.forest.specs.declared.rule.Site.{Site}
 use Rattle.forest.specs.declared.table_plan.TablePlan.{TablePlan}
-use Rattle.forest.proofs.LastingTables.{opening_in_turns, turned_table}
+use Rattle.forest.proofs.LastingTables.{many_names, opening_in_turns, turned_table}
 use Rattle.forest.proofs.lasting.Forest+Dict+K+V+Lasts+B.with_turns.Goals as goal
 
 pub open_in_turns-requires-clause-run : goal.open_in_turns-requires-clause-run
@@ -47,7 +48,7 @@ invariant_of-forest g c =
       layout = ap (λ (s : Site). s.layout) c.in_ok-words.ensures.key ∙ sym (ap (λ (p : TablePlan). p.layout) c.in_turns.ensures);
       room = rw c.in_turns.ensures c.in_ok-words.ensures.room.rests;
     } in
-    (table, rw c.in_turns.ensures c.requires.some.0, c.in_ok-words.ensures.table.0, c.requires.some.1, λ once. absurd (let never : true ≡ false = once in cc), sym (ap (λ (s : Site). s.turns) c.in_ok-words.ensures.key), λ lasts. lasting)
+    (table, rw c.in_turns.ensures c.requires.some.0, c.in_ok-words.ensures.table.0, c.requires.some.1, λ once. absurd (let never : true ≡ false = once in cc), sym (ap (λ (s : Site). s.turns) c.in_ok-words.ensures.key), λ lasts. (lasting, subst (λ (s : Site). ¬ HasFewNames (names_of_table s)) (sym c.in_ok-words.ensures.key) (many_names c.args.plot.layout c.of-turns.result c.requires.few c.of-turns.ensures.may)))
 
 pub returns-clause-opens : goal.returns-clause-opens
 returns-clause-opens g c =
