@@ -1,10 +1,9 @@
 -- How free slots get names, and names that are left are given back.
-use Rattle.std.specs.Prelude.{◌≡◌, ◌≢◌, ◌+◌, ◌-◌, ◌<◌, ◌≤◌, ◌⊎◌, ◌++◌, ◌%◌, ℕ, false, List, [], ◌∷◌, Option, Some, length, slice_get}
+use Rattle.std.specs.Prelude.{◌≡◌, ◌≢◌, ◌+◌, ◌-◌, ◌<◌, ◌≤◌, ◌⊎◌, ◌++◌, ◌%◌, ℕ, false, List, [], ◌∷◌, Some, length, slice_get}
 use Rattle.histories.specs.Common.{Abort, Fill, History, IsRun, Layout, Remaining, Row}
 use Rattle.planting.specs.Plantings.{PlantingView}
 use Rattle.prims.specs.Moments.{AreFinished}
 use Rattle.prims.specs.Shares.{IsShare}
-use Rattle.resting.specs.Records.{Record}
 use Rattle.slots.specs.Lasting.{IsOwnName, Lasting}
 use Rattle.forest.specs.LastingMemory.{record_at}
 use Rattle.forest.specs.LastingNames.{memory_with_node, memory_with_scx, node_ahead, past_nodes, past_scxs, scx_ahead}
@@ -12,7 +11,7 @@ use Rattle.forest.specs.LastingRule.{GoesOnWith}
 use Rattle.forest.specs.LastingSlots.{slot_number}
 use Rattle.forest.specs.Passes.{Each}
 use Rattle.forest.specs.TableRule.{past_of}
-use Rattle.forest.specs.UpkeepBook.{AreSameSlots, IsBook, IsCleanSlot, SparesOthers, dealt_of, numbered}
+use Rattle.forest.specs.UpkeepBook.{IsBook, IsCleanSlot, dealt_of, numbered}
 use Rattle.forest.specs.declared.memory.PassMemory.{PassMemory}
 use Rattle.forest.specs.declared.memory.RecordNo.{RecordNo}
 use Rattle.forest.specs.declared.upkeep.book.Known.TheVariants.{Free, Used}

@@ -9,7 +9,6 @@ ghost use Rattle.forest.specs.UpkeepOpening.{AreNamesOf, ArePlacesOf};
 ghost use Rattle.forest.specs.declared.view.SeatedPass.{SeatedPass};
 
 use crate::rule::Turns;
-
 use crate::upkeep::book::{Known, OwnSlot, OwnSlots};
 use crate::upkeep::kind::RecordKind;
 use arena::{Layout, NoMemory, PassNo};
@@ -40,7 +39,14 @@ fn own_places(kind: RecordKind, layout: &Layout, turns: &Turns, pass: PassNo) ->
     match kind {
         RecordKind::Node => {
             let first = layout.first_node(pass);
-            places_of(layout.opening(), first, layout.nodes, turns.node_bits, turns.laps, pass)
+            places_of(
+                layout.opening(),
+                first,
+                layout.nodes,
+                turns.node_bits,
+                turns.laps,
+                pass,
+            )
         }
         RecordKind::Scx => {
             let first = layout.first_scx(pass);
@@ -50,14 +56,7 @@ fn own_places(kind: RecordKind, layout: &Layout, turns: &Turns, pass: PassNo) ->
 }
 
 /// Where they are, of so many slots each pass behind `start`.
-fn places_of(
-    start: u32,
-    first: u32,
-    count: u32,
-    bits: u32,
-    laps: u64,
-    pass: PassNo,
-) -> OwnPlaces
+fn places_of(start: u32, first: u32, count: u32, bits: u32, laps: u64, pass: PassNo) -> OwnPlaces
     requires bits { bits ≤ 60 }
     requires pass { pass.0 < 32 }
     requires names { count + laps * 2 ^ bits ≤ 2 ^ 50 }

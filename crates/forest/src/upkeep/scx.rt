@@ -172,7 +172,14 @@ pub(crate) fn is_over<S: Shape>(
     };
     let plan = Plan(load_part(words, layout, seat, slot, part));
     for place in 0..plan.count() {
-        if !is_done_with(words, layout, seat, slot, Covered { name, place }, node_turn) {
+        if !is_done_with(
+            words,
+            layout,
+            seat,
+            slot,
+            Covered { name, place },
+            node_turn,
+        ) {
             return false;
         }
     }

@@ -42,7 +42,16 @@ pub(crate) fn turn_all<S: Shape>(
 {
     for i in 0..own.slots.len() {
         let slot = own.first + i as u64;
-        own.slots[i] = turn(words, layout, seat, own.kind, slot, own.slots[i], next, node_turn);
+        own.slots[i] = turn(
+            words,
+            layout,
+            seat,
+            own.kind,
+            slot,
+            own.slots[i],
+            next,
+            node_turn,
+        );
     }
 }
 

@@ -1,6 +1,6 @@
-use Rattle.std.proofs.Common.{◌≡◌, ◌≤◌, ◌+◌, ◌<◌, ℕ, List, [], ◌∷◌, refl, subst, arith}
-use Rattle.atomic_table.specs.Table.{Allows, Me}
-use Rattle.histories.specs.Common.{History, Layout, Remaining, Row}
+use Rattle.std.proofs.Common.{◌≡◌, ◌≤◌, refl, arith}
+use Rattle.atomic_table.specs.Table.{Allows}
+use Rattle.histories.specs.Common.{Remaining}
 use Rattle.forest.specs.LastingMemory.{record_at}
 use Rattle.forest.specs.LastingNames.{MayGiveName}
 use Rattle.forest.specs.LastingRule.{LearnsWith, TableLasts}
@@ -31,8 +31,8 @@ load_with-requires-clause-may g c =
     let id = c.args.seat.now.id in
     let me = c.args.seat.now.me in
     let law : (kind : RecordKind) → MayGiveName t r.0 r.1 (ahead kind r.0.memory 0) (numbered kind c.args.slot.number) → IsNotBefore r.1 (record_at (ahead kind r.0.memory 0)) → Allows (TableLasts allows t planting) slots id me c.args.at (λ n. n) (λ n w. LearnsWith allows (λ rows. memory_given kind r.0.memory 0 (numbered kind c.args.slot.number) rows) me.0 w.0 × (w.1 ≡ me.1)) = λ kind. elim kind as (λ (kind : RecordKind). MayGiveName t r.0 r.1 (ahead kind r.0.memory 0) (numbered kind c.args.slot.number) → IsNotBefore r.1 (record_at (ahead kind r.0.memory 0)) → Allows (TableLasts allows t planting) slots id me c.args.at (λ n. n) (λ n w. LearnsWith allows (λ rows. memory_given kind r.0.memory 0 (numbered kind c.args.slot.number) rows) me.0 w.0 × (w.1 ≡ me.1))) [
-        | Node ↦ λ may not. c.names_last.ensures.next_node t planting slots id me r.0 c.args.at r.1 (numbered Node c.args.slot.number) r.2.alone may not
-        | Scx ↦ λ may not. c.names_last.ensures.next_scx t planting slots id me r.0 c.args.at r.1 (numbered Scx c.args.slot.number) r.2.alone may not
+      | Node ↦ λ may not. c.names_last.ensures.next_node t planting slots id me r.0 c.args.at r.1 (numbered Node c.args.slot.number) r.2.alone may not
+      | Scx ↦ λ may not. c.names_last.ensures.next_scx t planting slots id me r.0 c.args.at r.1 (numbered Scx c.args.slot.number) r.2.alone may not
     ] in
     may_learn allows (λ m n rows. memory_given c.args.slot.kind m 0 (numbered c.args.slot.kind c.args.slot.number) rows) c.args.words.now c.args.layout.now c.args.seat.now r.0 c.args.at c.args.at (λ n. n) r.2 refl
     (law c.args.slot.kind (may_give allows t r.0 r.1 c.args.slot.kind c.args.slot.number 0 (passes_in c.args.words.now c.args.layout.now c.args.seat.now r.0 r.2) r.4 r.6) (not_before c.args.slot.kind r.1 r.0.memory r.5))

@@ -1,4 +1,4 @@
-use Rattle.std.proofs.Common.{◌≡◌, ℕ, [], ◌∷◌, refl}
+use Rattle.std.proofs.Common.{◌≡◌, refl}
 use Rattle.atomic_table.specs.Table.{Allows}
 use Rattle.forest.specs.LastingNames.{MayGiveName}
 use Rattle.forest.specs.LastingRule.{GoesOnWith, TableLasts}
@@ -27,8 +27,8 @@ load_with-requires-clause-may g c =
     let count = c.args.given.count in
     let slot = c.args.given.slot in
     let law : (kind : RecordKind) → MayGiveName t p r.1 (ahead kind p.memory count) (numbered kind slot) → next_of kind r.1 ≡ dealt_of kind p.memory → Allows (TableLasts allows t site.planting) slots id me c.args.at (λ n. n) (λ n w. GoesOnWith allows (past_names kind p.number.0 (dealt_of kind p.memory) count) (memory_given kind p.memory count (numbered kind slot)) me.0 w.0 × (w.1 ≡ me.1)) = λ kind. elim kind as (λ (kind : RecordKind). MayGiveName t p r.1 (ahead kind p.memory count) (numbered kind slot) → next_of kind r.1 ≡ dealt_of kind p.memory → Allows (TableLasts allows t site.planting) slots id me c.args.at (λ n. n) (λ n w. GoesOnWith allows (past_names kind p.number.0 (dealt_of kind p.memory) count) (memory_given kind p.memory count (numbered kind slot)) me.0 w.0 × (w.1 ≡ me.1))) [
-        | Node ↦ λ may all. c.names_last.ensures.nodes t site.planting slots id me p c.args.at count r.1 (numbered Node slot) r.2.alone may all
-        | Scx ↦ λ may all. c.names_last.ensures.scx t site.planting slots id me p c.args.at count r.1 (numbered Scx slot) r.2.alone may all
+      | Node ↦ λ may all. c.names_last.ensures.nodes t site.planting slots id me p c.args.at count r.1 (numbered Node slot) r.2.alone may all
+      | Scx ↦ λ may all. c.names_last.ensures.scx t site.planting slots id me p c.args.at count r.1 (numbered Scx slot) r.2.alone may all
     ] in
     let turns = r.2.table.0 in
     upkeep_allows allows site turns.turns turns.comes_back slots id me c.args.at c.args.at (λ n. n) (λ n w. GoesOnWith allows (past_names c.args.given.kind p.number.0 (dealt_of c.args.given.kind p.memory) count) (memory_given c.args.given.kind p.memory count (numbered c.args.given.kind slot)) me.0 w) (λ n w. LearnsPast allows c.args.given.kind slot count me.0 w) refl (λ n w x. (p, r.2.alone, x))

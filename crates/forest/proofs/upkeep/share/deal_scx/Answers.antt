@@ -1,7 +1,7 @@
-use Rattle.std.proofs.Common.{◌≡◌, ◌<◌, ◌≤◌, ◌+◌, ◌-◌, ℕ, length, refl, sym, ◌∙◌, ap, subst, arith}
+use Rattle.std.proofs.Common.{◌≡◌, ◌≤◌, ◌+◌, ◌-◌, ℕ, length, refl, sym, ◌∙◌, ap, subst, arith}
 use Rattle.histories.specs.Common.{Remaining}
 use Rattle.forest.specs.UpkeepBook.{slots_in}
-use Rattle.forest.specs.UpkeepDeals.{DealsOn, HasDealt, HasLeft, next_of, with_left}
+use Rattle.forest.specs.UpkeepDeals.{HasDealt, next_of, with_left}
 use Rattle.forest.specs.declared.upkeep.kind.RecordKind.{RecordKind}
 use Rattle.forest.specs.declared.upkeep.kind.RecordKind.TheVariants.{Scx}
 use Rattle.forest.proofs.UpkeepDealt.{is_share, share_is, shared}
@@ -46,9 +46,8 @@ returns-clause-given g c =
     let left = c.left-nodes.ensures in
     deals_as (HasDealt allows t old new c.next.result.1.0 first) _ c.args.seat.now.me.0 c.deal-first.new.seat.me.0 r.0 r.2.alone
     (λ q goes x.
-        let y : HasDealt allows t old new c.args.share.next_scx first r.0 q = subst (λ n. HasDealt allows t old new n first r.0 q) c.next.ensures.1 x in
-        (
-          subst (λ n. HasDealt allows t old new c.args.share.next_scx n r.0 q) (ap (λ (l : Remaining). l.next_scx) (sym c.of_run.ensures)) y,
-          λ has. shared allows t old new Scx c.args.share c.of_run.result first r.0 q c.requires.kind (c.of_run.ensures ∙ same_rest c.next.result.0.0 c.args.share.next_node c.left-nodes.result.0 c.args.share.nodes first (new.dealt - first) c.args.share c.next.ensures.0 (ap (λ (l : ℕ × ℕ). l.0) left) refl refl) y has,
-        ))
+    let y : HasDealt allows t old new c.args.share.next_scx first r.0 q = subst (λ n. HasDealt allows t old new n first r.0 q) c.next.ensures.1 x in (
+      subst (λ n. HasDealt allows t old new c.args.share.next_scx n r.0 q) (ap (λ (l : Remaining). l.next_scx) (sym c.of_run.ensures)) y,
+      λ has. shared allows t old new Scx c.args.share c.of_run.result first r.0 q c.requires.kind (c.of_run.ensures ∙ same_rest c.next.result.0.0 c.args.share.next_node c.left-nodes.result.0 c.args.share.nodes first (new.dealt - first) c.args.share c.next.ensures.0 (ap (λ (l : ℕ × ℕ). l.0) left) refl refl) y has,
+    ))
     c.deal-first.ensures.given
