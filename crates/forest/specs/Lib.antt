@@ -45,3 +45,4 @@ pub mod UpkeepBook
 pub mod UpkeepDeals
 pub mod UpkeepScx
 pub mod UpkeepOpening
+pub mod UpkeepKeeper

@@ -18,6 +18,7 @@ use std::marker::Brand;
 pub(crate) mod book;
 pub(crate) mod clean;
 pub(crate) mod deal;
+pub(crate) mod keeper;
 pub(crate) mod kind;
 pub(crate) mod looks;
 pub(crate) mod names;

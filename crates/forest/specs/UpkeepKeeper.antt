@@ -1,0 +1,95 @@
+-- What a pass keeps from one call to the next so that its records come back, and what it is to be
+-- right.
+use Rattle.std.specs.Prelude.{◌≡◌, ◌<◌, ◌+◌, ◌⊎◌, ◌%◌, ℕ, false, List, [], Option, Some, None, length, slice_get}
+use Rattle.histories.specs.Common.{Layout, Remaining, Row, Extends, first_node, first_scx}
+use Rattle.prims.specs.Moments.{AreFinished}
+use Rattle.prims.specs.Shares.{IsShare}
+use Rattle.slots.specs.Lasting.{IsLasting, Lasting}
+use Rattle.forest.specs.LastingOpening.{first_memory}
+use Rattle.forest.specs.TableRule.{history_of, past_of}
+use Rattle.forest.specs.UpkeepBook.{HasTakenBelow, IsBook}
+use Rattle.forest.specs.UpkeepPeriod.{HasPeriod, IsFirstWaited}
+use Rattle.forest.specs.declared.memory.PassMemory.{PassMemory}
+use Rattle.forest.specs.declared.upkeep.book.Known.TheVariants.{Used}
+use Rattle.forest.specs.declared.upkeep.book.OwnSlot.{OwnSlot}
+use Rattle.forest.specs.declared.upkeep.book.OwnSlots.{OwnSlots}
+use Rattle.forest.specs.declared.upkeep.keeper.Keeper.{Keeper}
+use Rattle.forest.specs.declared.upkeep.kind.RecordKind.TheVariants.{Node, Scx}
+use Rattle.forest.specs.declared.upkeep.period.Period.{Period}
+use Rattle.forest.specs.declared.view.SeatedPass.{SeatedPass}
+
+-- how often a pass rests at most, so that twice as much fits a word
+abbrev pub most_rests : ℕ
+most_rests = 4611686018427387904
+
+-- the period is one since these rows, if one runs
+abbrev pub RunsSince : (count : ℕ) → SeatedPass → List Row → Option Period → Type 0
+RunsSince count p rows None = Unit {0}
+RunsSince count p rows (Some period) = HasPeriod count p rows period
+
+-- The pass p, which knows these rows or more, keeps what is right of its rests and slots: what was
+-- found, or is dying, was so after these rows or before.
+pub record KeepsSlotsSince (t : Lasting) (p : SeatedPass) (rows : List Row) (keeper : Keeper) : Type 0 where
+  pub known : Extends (past_of p []) (history_of p.planting rows)
+  pub often : keeper.often ≡ p.memory.often
+  pub node_kind : keeper.nodes.kind ≡ Node
+  pub scx_kind : keeper.scxs.kind ≡ Scx
+  pub nodes : IsBook t p rows keeper.nodes
+  pub scxs : IsBook t p rows keeper.scxs
+
+-- What the pass p keeps is right: of its slots since some moment, and if a period runs, it is one
+-- since then. And the pass is there, or can come back.
+pub record IsKeeper (t : Lasting) (p : SeatedPass) (keeper : Keeper) : Type 0 where
+  pub there : (keeper.often < most_rests) ⊎ (p.memory.away ≡ false)
+  pub since : List Row
+  pub slots : KeepsSlotsSince t p since keeper
+  pub period : RunsSince t.table.passes p since keeper.period
+
+-- the pass is between two calls, and so much is left of its share
+pub record IsBetween (p : SeatedPass) (left : Remaining) : Type 0 where
+  pub share : IsShare p.layout (past_of p []) p.number.0 left left.next_node left.next_scx
+  pub over : AreFinished p.layout p.number.0 0 (past_of p [])
+
+-- as many names of the pass are dealt as before
+pub record DealsNoMore (m n : PassMemory) : Type 0 where
+  pub nodes_to : n.nodes_to ≡ m.nodes_to
+  pub scx_to : n.scx_to ≡ m.scx_to
+
+-- The pass p, which is q now, is there, and keeps what is right; and as many of its names are dealt
+-- as before.
+pub record HasTakenRest (t : Lasting) (keeper : Keeper) (p q : SeatedPass) : Type 0 where
+  pub kept : IsKeeper t q keeper
+  pub there : q.memory.away ≡ false
+  pub deals : DealsNoMore p.memory q.memory
+
+-- What the pass keeps of its slots is right since it became q, and it is there.
+pub record HasTurnedSlots (t : Lasting) (keeper : Keeper) (p q : SeatedPass) : Type 0 where
+  pub slots : KeepsSlotsSince t q q.known keeper
+  pub there : q.memory.away ≡ false
+  pub deals : DealsNoMore p.memory q.memory
+
+-- What the pass keeps of its slots is right since these rows, and it is there.
+pub record IsBack (t : Lasting) (p : SeatedPass) (rows : List Row) (keeper : Keeper) : Type 0 where
+  pub slots : KeepsSlotsSince t p rows keeper
+  pub there : p.memory.away ≡ false
+
+-- and it has rested since then, in this period
+pub record IsBackDuring (t : Lasting) (p : SeatedPass) (rows : List Row) (period : Period) (keeper : Keeper) : Type 0 where
+  pub back : IsBack t p rows keeper
+  pub rested : Extends (history_of p.planting p.memory.rested) (history_of p.planting rows)
+  pub runs : HasPeriod t.table.passes p rows period
+
+-- the pass has taken all of its names that are before these two
+pub record HasTakenAll (p : SeatedPass) (left : Remaining) : Type 0 where
+  pub nodes : HasTakenBelow p Node left.next_node
+  pub scxs : HasTakenBelow p Scx left.next_scx
+
+-- the period waits for this pass first, if one runs
+abbrev pub IsAwaited : Option Period → ℕ → Type 0
+IsAwaited None k = ⊥
+IsAwaited (Some period) k = IsFirstWaited period k
+
+-- all of these slots are in use, by the names from this one on
+pub record AreFirstUsed (slots : List OwnSlot) (first count : ℕ) : Type 0 where
+  pub all : length slots ≡ count
+  pub used : (i : ℕ) (x : OwnSlot) → slice_get slots i ≡ Some x → x ≡ record { name = first + i; known = Used }

@@ -1,0 +1,200 @@
+//! What a pass keeps from one call to the next so that its records come back, and what it does as
+//! it rests.
+ghost use Rattle.std.specs.Prelude.{◌≡◌, ◌+◌, ◌<◌, ◌≤◌, ◌^◌, ◌*◌, ℕ, false, List, [], IfOk, IfSome, length, slice_get};
+ghost use Rattle.arena.specs.declared.step.Row.{Row};
+ghost use Rattle.histories.specs.Common.{first_node, first_scx};
+ghost use Rattle.slots.specs.Lasting.{IsLasting};
+ghost use Rattle.forest.specs.LastingOpening.{first_memory};
+ghost use Rattle.forest.specs.Seats.{StaysAtTable};
+ghost use Rattle.forest.specs.Slotted.{in_turns};
+ghost use Rattle.forest.specs.UpkeepBook.{HasEnded, IsAtLasting, slots_in};
+ghost use Rattle.forest.specs.UpkeepKeeper.{AreFirstUsed, HasTakenAll, HasTakenRest, HasTurnedSlots, IsAwaited, IsBack, IsBackDuring, IsBetween, IsKeeper};
+ghost use Rattle.forest.specs.UpkeepSteps.{RestsOn};
+ghost use Rattle.forest.specs.declared.view.SeatedPass.{SeatedPass};
+
+use crate::rule::Turns;
+use crate::upkeep::book::{Known, OwnSlot, OwnSlots};
+use crate::upkeep::kind::RecordKind;
+use crate::upkeep::period::Period;
+use crate::upkeep::turn::turn_all;
+use crate::upkeep::{MOST_RESTS, rest};
+use crate::view::SeatView;
+use crate::words::Words;
+use arena::{Layout, NoMemory, NodeNo, PassNo, ScxNo, Shape, Share};
+use atomic_table::Seat;
+use std::alloc::Global;
+
+/// What a pass keeps: how often it has rested, whom it waits for, and what it knows of its slots.
+#[derive(Drop)]
+pub(crate) struct Keeper {
+    often: u64,
+    period: Option<Period>,
+    nodes: OwnSlots,
+    scxs: OwnSlots,
+}
+
+impl Keeper {
+    /// What a pass keeps before its first step: all of its slots are in use, by its names of the
+    /// first lap, of which these two are the first.
+    pub(crate) fn new(
+        alloc: Global,
+        layout: &Layout,
+        turns: Turns,
+        number: PassNo,
+        node: NodeNo,
+        scx: ScxNo,
+    ) -> Result<Keeper, NoMemory>
+        requires lasts { IsLasting (in_turns layout.now turns) }
+        requires bits { (turns.node_bits ≤ 29) × (turns.scx_bits ≤ 29) }
+        requires pass { number.0 < layout.now.passes }
+        requires first { (node.0 ≡ first_node (in_turns layout.now turns).lay number.0)
+            × (scx.0 ≡ first_scx (in_turns layout.now turns).lay number.0) }
+        ensures { IfOk result (λ keeper. (p : SeatedPass) → p.number ≡ number
+            → p.memory ≡ first_memory (in_turns layout.now turns) number.0
+            → IsKeeper (in_turns layout.now turns) p keeper) }
+    {
+        let nodes = first_used(alloc, layout.nodes, node.0)?;
+        let scxs = first_used(alloc, layout.scx, scx.0)?;
+        Ok(Keeper {
+            often: 0,
+            period: None,
+            nodes: OwnSlots {
+                kind: RecordKind::Node,
+                first: u64::from(layout.first_node(number)),
+                turn: 1 << turns.node_bits,
+                end: node.0 + u64::from(layout.nodes) + turns.laps * (1 << turns.node_bits),
+                dealt: node.0 + u64::from(layout.nodes),
+                slots: nodes,
+            },
+            scxs: OwnSlots {
+                kind: RecordKind::Scx,
+                first: u64::from(layout.first_scx(number)),
+                turn: 1 << turns.scx_bits,
+                end: scx.0 + u64::from(layout.scx) + turns.laps * (1 << turns.scx_bits),
+                dealt: scx.0 + u64::from(layout.scx),
+                slots: scxs,
+            },
+        })
+    }
+
+    /// A pass rests, or is back from where it was, between two calls. If by then all others have
+    /// rested since its period began, what it knows of its slots goes on, and the next begins. It
+    /// makes up to 1 + 2 * (passes - 1) steps, and where a period ends up to 20 for each of its
+    /// slots. Once it has rested as often as a word can tell it does nothing more: then nothing
+    /// comes back any more.
+    pub(crate) fn rest<S: Shape>(
+        &mut self,
+        words: &Words<S>,
+        layout: &Layout,
+        seat: &mut Seat<u8, SeatView>,
+        number: PassNo,
+        left: &Share,
+    )
+        requires { (p : SeatedPass) × IsAtLasting words.now layout.now seat.old p
+            × (p.number ≡ number) × IsBetween p left.now
+            × IsKeeper (slots_in words.now) p self.old }
+        ensures table { StaysAtTable seat.old seat.new }
+        ensures rests { RestsOn S.allows (HasTakenRest (slots_in words.now) self.new)
+            seat.old.me.0 seat.new.me.0 }
+    {
+        if self.often >= MOST_RESTS {
+            return;
+        }
+        self.often = rest(words, layout, seat, number, self.often);
+        match self.period {
+            None => self.begin(words, layout, seat, number),
+            Some(period) => self.go_on(words, layout, seat, number, left, period),
+        }
+    }
+
+    /// Goes on with a period since which the pass has rested: once it is over, so does what is
+    /// known of the slots, and the next begins.
+    fn go_on<S: Shape>(
+        &mut self,
+        words: &Words<S>,
+        layout: &Layout,
+        seat: &mut Seat<u8, SeatView>,
+        number: PassNo,
+        left: &Share,
+        mut period: Period,
+    )
+        requires { (p : SeatedPass) × (since : List Row)
+            × IsAtLasting words.now layout.now seat.old p × (p.number ≡ number)
+            × IsBackDuring (slots_in words.now) p since period self.old × HasTakenAll p left.now }
+        ensures table { StaysAtTable seat.old seat.new }
+        ensures rests { RestsOn S.allows (HasTakenRest (slots_in words.now) self.new)
+            seat.old.me.0 seat.new.me.0 }
+    {
+        if period.poll(words, layout, seat) {
+            self.turn(words, layout, seat, left);
+            self.begin(words, layout, seat, number);
+        } else {
+            self.period = Some(period);
+        }
+    }
+
+    /// What is known of all slots goes on, as a period is over.
+    fn turn<S: Shape>(
+        &mut self,
+        words: &Words<S>,
+        layout: &Layout,
+        seat: &mut Seat<u8, SeatView>,
+        left: &Share,
+    )
+        requires { (p : SeatedPass) × (since : List Row)
+            × IsAtLasting words.now layout.now seat.old p
+            × IsBack (slots_in words.now) p since self.old
+            × HasEnded (slots_in words.now) p since × HasTakenAll p left.now }
+        ensures table { StaysAtTable seat.old seat.new }
+        ensures turned { RestsOn S.allows (HasTurnedSlots (slots_in words.now) self.new)
+            seat.old.me.0 seat.new.me.0 }
+    {
+        let (node, scx) = left.next();
+        turn_all(words, layout, seat, &mut self.nodes, node.0);
+        turn_all(words, layout, seat, &mut self.scxs, scx.0);
+    }
+
+    /// Begins a period.
+    fn begin<S: Shape>(
+        &mut self,
+        words: &Words<S>,
+        layout: &Layout,
+        seat: &mut Seat<u8, SeatView>,
+        number: PassNo,
+    )
+        requires { (p : SeatedPass) × (since : List Row)
+            × IsAtLasting words.now layout.now seat.old p × (p.number ≡ number)
+            × IsBack (slots_in words.now) p since self.old }
+        ensures table { StaysAtTable seat.old seat.new }
+        ensures rests { RestsOn S.allows (HasTakenRest (slots_in words.now) self.new)
+            seat.old.me.0 seat.new.me.0 }
+    {
+        self.period = Some(Period::begin(words, layout, seat, number));
+    }
+
+    /// The first pass that is waited for: until it rests or goes away, nothing comes back that was
+    /// found before the period began.
+    pub(crate) fn waits_for(&self) -> Option<PassNo>
+        ensures { IfSome result (λ other. IsAwaited self.now.period other.0) }
+    {
+        match self.period {
+            Some(period) => period.waits_for(),
+            None => None,
+        }
+    }
+}
+
+/// So many slots, all in use, by the names from this one on.
+fn first_used(alloc: Global, count: u32, first: u64) -> Result<Vec<OwnSlot>, NoMemory>
+    requires { first + count < 2 ^ 64 }
+    ensures { IfOk result (λ slots. AreFirstUsed slots.items first count) }
+{
+    let mut slots = Vec::with_capacity(alloc, count as usize)?;
+    for i in 0..count {
+        slots.push(OwnSlot {
+            name: first + u64::from(i),
+            known: Known::Used,
+        })?;
+    }
+    Ok(slots)
+}
