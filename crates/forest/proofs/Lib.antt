@@ -72,3 +72,4 @@ mod UpkeepDeals
 mod UpkeepDealt
 mod UpkeepScx
 mod UpkeepOpening
+mod UpkeepKeeper

@@ -1,18 +1,16 @@
 -- What a pass keeps from one call to the next so that its records come back, and what it is to be
 -- right.
-use Rattle.std.specs.Prelude.{◌≡◌, ◌<◌, ◌+◌, ◌⊎◌, ◌%◌, ℕ, false, List, [], Option, Some, None, length, slice_get}
-use Rattle.histories.specs.Common.{Layout, Remaining, Row, Extends, first_node, first_scx}
+use Rattle.std.specs.Prelude.{◌≡◌, ◌<◌, ◌+◌, ◌⊎◌, ℕ, false, List, [], Option, Some, None, length, slice_get}
+use Rattle.histories.specs.Common.{Remaining, Row, Extends}
 use Rattle.prims.specs.Moments.{AreFinished}
 use Rattle.prims.specs.Shares.{IsShare}
-use Rattle.slots.specs.Lasting.{IsLasting, Lasting}
-use Rattle.forest.specs.LastingOpening.{first_memory}
+use Rattle.slots.specs.Lasting.{Lasting}
 use Rattle.forest.specs.TableRule.{history_of, past_of}
 use Rattle.forest.specs.UpkeepBook.{HasTakenBelow, IsBook}
 use Rattle.forest.specs.UpkeepPeriod.{HasPeriod, IsFirstWaited}
 use Rattle.forest.specs.declared.memory.PassMemory.{PassMemory}
 use Rattle.forest.specs.declared.upkeep.book.Known.TheVariants.{Used}
 use Rattle.forest.specs.declared.upkeep.book.OwnSlot.{OwnSlot}
-use Rattle.forest.specs.declared.upkeep.book.OwnSlots.{OwnSlots}
 use Rattle.forest.specs.declared.upkeep.keeper.Keeper.{Keeper}
 use Rattle.forest.specs.declared.upkeep.kind.RecordKind.TheVariants.{Node, Scx}
 use Rattle.forest.specs.declared.upkeep.period.Period.{Period}

@@ -1,0 +1,18 @@
+use Rattle.std.proofs.Common.{Some, refl, sym, subst}
+use Rattle.histories.specs.Common.{Layout}
+use Rattle.forest.specs.UpkeepBook.{slots_in}
+use Rattle.forest.specs.UpkeepPeriod.{BeginsPeriod}
+use Rattle.forest.proofs.UpkeepKeeper.{begun, seat_of}
+use Rattle.forest.proofs.UpkeepLooks.{table_in}
+use Rattle.forest.proofs.upkeep.keeper.Keeper.begin.Goals as goal
+
+pub returns-clause-rests : goal.returns-clause-rests
+returns-clause-rests g c =
+    let r = c.requires in
+    let allows = g.S.Shape.allows in
+    let t = slots_in c.args.words.now in
+    let old = c.args.self.now in
+    let x = c.begin.ensures.begins in
+    seat_of allows (BeginsPeriod c.args.layout.now.passes c.begin.result) _ c.args.seat.now.me.0 c.begin.new.seat.me.0 r.0 r.2.alone x
+    (λ goes begins. begun allows t r.0 x.later goes r.1 old record old { period = Some c.begin.result } c.begin.result refl refl refl refl r.4
+    (subst (λ (l : Layout). BeginsPeriod l.passes c.begin.result r.0 x.later) (sym (table_in c.args.words.now c.args.layout.now c.args.seat.now r.0 r.2)) begins))
