@@ -73,3 +73,4 @@ mod UpkeepDealt
 mod UpkeepScx
 mod UpkeepOpening
 mod UpkeepKeeper
+mod UpkeepFirst

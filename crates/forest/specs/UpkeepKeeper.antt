@@ -1,17 +1,19 @@
 -- What a pass keeps from one call to the next so that its records come back, and what it is to be
 -- right.
-use Rattle.std.specs.Prelude.{◌≡◌, ◌<◌, ◌+◌, ◌⊎◌, ℕ, false, List, [], Option, Some, None, length, slice_get}
+use Rattle.std.specs.Prelude.{◌≡◌, ◌<◌, ◌+◌, ◌⊎◌, ◌*◌, ℕ, false, List, [], Option, Some, None, length, slice_get}
 use Rattle.histories.specs.Common.{Remaining, Row, Extends}
 use Rattle.prims.specs.Moments.{AreFinished}
 use Rattle.prims.specs.Shares.{IsShare}
 use Rattle.slots.specs.Lasting.{Lasting}
 use Rattle.forest.specs.TableRule.{history_of, past_of}
 use Rattle.forest.specs.UpkeepBook.{HasTakenBelow, IsBook}
-use Rattle.forest.specs.UpkeepPeriod.{HasPeriod, IsFirstWaited}
+use Rattle.forest.specs.UpkeepPeriod.{HasPeriod, IsFirstWaited, WaitsForNobody}
 use Rattle.forest.specs.declared.memory.PassMemory.{PassMemory}
 use Rattle.forest.specs.declared.upkeep.book.Known.TheVariants.{Used}
 use Rattle.forest.specs.declared.upkeep.book.OwnSlot.{OwnSlot}
+use Rattle.forest.specs.declared.upkeep.book.OwnSlots.{OwnSlots}
 use Rattle.forest.specs.declared.upkeep.keeper.Keeper.{Keeper}
+use Rattle.forest.specs.declared.upkeep.kind.RecordKind.{RecordKind}
 use Rattle.forest.specs.declared.upkeep.kind.RecordKind.TheVariants.{Node, Scx}
 use Rattle.forest.specs.declared.upkeep.period.Period.{Period}
 use Rattle.forest.specs.declared.view.SeatedPass.{SeatedPass}
@@ -82,7 +84,12 @@ pub record HasTakenAll (p : SeatedPass) (left : Remaining) : Type 0 where
   pub nodes : HasTakenBelow p Node left.next_node
   pub scxs : HasTakenBelow p Scx left.next_scx
 
--- the period waits for this pass first, if one runs
+-- no period runs, or it waits for nobody any more
+abbrev pub AwaitsNobody : Option Period → Type 0
+AwaitsNobody None = Unit {0}
+AwaitsNobody (Some period) = WaitsForNobody period
+
+-- a period runs, and waits for this pass first
 abbrev pub IsAwaited : Option Period → ℕ → Type 0
 IsAwaited None k = ⊥
 IsAwaited (Some period) k = IsFirstWaited period k
@@ -91,3 +98,13 @@ IsAwaited (Some period) k = IsFirstWaited period k
 pub record AreFirstUsed (slots : List OwnSlot) (first count : ℕ) : Type 0 where
   pub all : length slots ≡ count
   pub used : (i : ℕ) (x : OwnSlot) → slice_get slots i ≡ Some x → x ≡ record { name = first + i; known = Used }
+
+-- These are so many slots of a kind from the first on, all in use, by the names from this one on, of
+-- which there are so many laps more.
+pub record AreInUse (own : OwnSlots) (kind : RecordKind) (first count name laps turn : ℕ) : Type 0 where
+  pub is_kind : own.kind ≡ kind
+  pub is_first : own.first ≡ first
+  pub is_turn : own.turn ≡ turn
+  pub end : own.end ≡ name + count + laps * turn
+  pub dealt : own.dealt ≡ name + count
+  pub used : AreFirstUsed own.slots.items name count

@@ -1,6 +1,6 @@
 //! What a pass keeps from one call to the next so that its records come back, and what it does as
 //! it rests.
-ghost use Rattle.std.specs.Prelude.{◌≡◌, ◌+◌, ◌<◌, ◌≤◌, ◌^◌, ◌*◌, ℕ, false, List, [], IfOk, IfSome, length, slice_get};
+ghost use Rattle.std.specs.Prelude.{◌≡◌, ◌+◌, ◌<◌, ◌≤◌, ◌^◌, ◌*◌, ℕ, false, List, [], IfOk, MatchOption, length, slice_get};
 ghost use Rattle.arena.specs.declared.step.Row.{Row};
 ghost use Rattle.histories.specs.Common.{first_node, first_scx};
 ghost use Rattle.slots.specs.Lasting.{IsLasting};
@@ -8,7 +8,7 @@ ghost use Rattle.forest.specs.LastingOpening.{first_memory};
 ghost use Rattle.forest.specs.Seats.{StaysAtTable};
 ghost use Rattle.forest.specs.Slotted.{in_turns};
 ghost use Rattle.forest.specs.UpkeepBook.{HasEnded, IsAtLasting, slots_in};
-ghost use Rattle.forest.specs.UpkeepKeeper.{AreFirstUsed, HasTakenAll, HasTakenRest, HasTurnedSlots, IsAwaited, IsBack, IsBackDuring, IsBetween, IsKeeper};
+ghost use Rattle.forest.specs.UpkeepKeeper.{AreFirstUsed, AreInUse, AwaitsNobody, HasTakenAll, HasTakenRest, HasTurnedSlots, IsAwaited, IsBack, IsBackDuring, IsBetween, IsKeeper};
 ghost use Rattle.forest.specs.UpkeepSteps.{RestsOn};
 ghost use Rattle.forest.specs.declared.view.SeatedPass.{SeatedPass};
 
@@ -53,27 +53,29 @@ impl Keeper {
             → p.memory ≡ first_memory (in_turns layout.now turns) number.0
             → IsKeeper (in_turns layout.now turns) p keeper) }
     {
-        let nodes = first_used(alloc, layout.nodes, node.0)?;
-        let scxs = first_used(alloc, layout.scx, scx.0)?;
+        let nodes = OwnSlots::in_use(
+            alloc,
+            RecordKind::Node,
+            layout.first_node(number),
+            layout.nodes,
+            node.0,
+            turns.laps,
+            turn_by(turns.node_bits),
+        )?;
+        let scxs = OwnSlots::in_use(
+            alloc,
+            RecordKind::Scx,
+            layout.first_scx(number),
+            layout.scx,
+            scx.0,
+            turns.laps,
+            turn_by(turns.scx_bits),
+        )?;
         Ok(Keeper {
             often: 0,
             period: None,
-            nodes: OwnSlots {
-                kind: RecordKind::Node,
-                first: u64::from(layout.first_node(number)),
-                turn: 1 << turns.node_bits,
-                end: node.0 + u64::from(layout.nodes) + turns.laps * (1 << turns.node_bits),
-                dealt: node.0 + u64::from(layout.nodes),
-                slots: nodes,
-            },
-            scxs: OwnSlots {
-                kind: RecordKind::Scx,
-                first: u64::from(layout.first_scx(number)),
-                turn: 1 << turns.scx_bits,
-                end: scx.0 + u64::from(layout.scx) + turns.laps * (1 << turns.scx_bits),
-                dealt: scx.0 + u64::from(layout.scx),
-                slots: scxs,
-            },
+            nodes,
+            scxs,
         })
     }
 
@@ -175,13 +177,48 @@ impl Keeper {
     /// The first pass that is waited for: until it rests or goes away, nothing comes back that was
     /// found before the period began.
     pub(crate) fn waits_for(&self) -> Option<PassNo>
-        ensures { IfSome result (λ other. IsAwaited self.now.period other.0) }
+        ensures { MatchOption result (AwaitsNobody self.now.period)
+            (λ other. IsAwaited self.now.period other.0) }
     {
         match self.period {
             Some(period) => period.waits_for(),
             None => None,
         }
     }
+}
+
+impl OwnSlots {
+    /// So many slots from the first on, all in use, by the names from this one on, of which there
+    /// are so many laps more.
+    fn in_use(
+        alloc: Global,
+        kind: RecordKind,
+        first: u32,
+        count: u32,
+        name: u64,
+        laps: u64,
+        turn: u64,
+    ) -> Result<OwnSlots, NoMemory>
+        requires { name + count + laps * turn < 2 ^ 64 }
+        ensures { IfOk result (λ own. AreInUse own kind first count name laps turn) }
+    {
+        Ok(OwnSlots {
+            kind,
+            first: u64::from(first),
+            turn,
+            end: name + u64::from(count) + laps * turn,
+            dealt: name + u64::from(count),
+            slots: first_used(alloc, count, name)?,
+        })
+    }
+}
+
+/// How many names on by so many bits one has the same slot.
+fn turn_by(bits: u32) -> u64
+    requires { bits ≤ 29 }
+    ensures { result ≡ 2 ^ bits }
+{
+    1 << bits
 }
 
 /// So many slots, all in use, by the names from this one on.
