@@ -74,3 +74,4 @@ mod UpkeepScx
 mod UpkeepOpening
 mod UpkeepKeeper
 mod UpkeepFirst
+mod UpkeepSet

@@ -67,7 +67,7 @@ module _ (t : Lasting) (p q : SeatedPass) (number : q.number ≡ p.number) (plan
 -- Calls
 
 -- a period goes on as the pass knows more
-runs_on : (p q : SeatedPass) → q.number ≡ p.number → q.planting ≡ p.planting → Extends (past_of q []) (history_of q.planting p.known) → q.memory.polls ≡ p.memory.polls → (count : ℕ) (rows : List Row) (period : Option Period) → RunsSince count p rows period → RunsSince count q rows period
+pub runs_on : (p q : SeatedPass) → q.number ≡ p.number → q.planting ≡ p.planting → Extends (past_of q []) (history_of q.planting p.known) → q.memory.polls ≡ p.memory.polls → (count : ℕ) (rows : List Row) (period : Option Period) → RunsSince count p rows period → RunsSince count q rows period
 runs_on p q number planting more same count rows None x = tt
 runs_on p q number planting more same count rows (Some period) x = period_stays p q number planting count rows period more same x
 

@@ -1,12 +1,14 @@
 -- What a pass keeps from one call to the next so that its records come back, and what it is to be
 -- right.
 use Rattle.std.specs.Prelude.{◌≡◌, ◌<◌, ◌+◌, ◌⊎◌, ◌*◌, ℕ, false, List, [], Option, Some, None, length, slice_get}
-use Rattle.histories.specs.Common.{Remaining, Row, Extends}
+use Rattle.histories.specs.Common.{Layout, Remaining, Row, History, Extends}
 use Rattle.prims.specs.Moments.{AreFinished}
 use Rattle.prims.specs.Shares.{IsShare}
 use Rattle.slots.specs.Lasting.{Lasting}
 use Rattle.forest.specs.TableRule.{history_of, past_of}
 use Rattle.forest.specs.UpkeepBook.{HasTakenBelow, IsBook}
+use Rattle.forest.specs.Shares.{EndsAsDealt}
+use Rattle.forest.specs.UpkeepDeals.{HasLeft}
 use Rattle.forest.specs.UpkeepPeriod.{HasPeriod, IsFirstWaited, WaitsForNobody}
 use Rattle.forest.specs.declared.memory.PassMemory.{PassMemory}
 use Rattle.forest.specs.declared.upkeep.book.Known.TheVariants.{Used}
@@ -108,3 +110,14 @@ pub record AreInUse (own : OwnSlots) (kind : RecordKind) (first count name laps 
   pub end : own.end ≡ name + count + laps * turn
   pub dealt : own.dealt ≡ name + count
   pub used : AreFirstUsed own.slots.items name count
+
+-- The pass is there and between two calls, and has so much left of its share, which ends where its
+-- dealt names end; and what it keeps is right.
+pub record IsSetToCall (allows : Layout → History → ℕ → Type 0) (t : Lasting) (p : SeatedPass) (left : Remaining) (keeper : Keeper) : Type 0 where
+  pub kept : IsKeeper t p keeper
+  pub has : HasLeft allows p left
+  pub ends : EndsAsDealt left p.memory
+
+-- it is so of the pass that it is now
+abbrev pub IsSetNow : (Layout → History → ℕ → Type 0) → Lasting → Remaining → Keeper → SeatedPass → SeatedPass → Type 0
+IsSetNow allows t left keeper p q = IsSetToCall allows t q left keeper

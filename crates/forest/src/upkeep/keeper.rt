@@ -7,13 +7,19 @@ ghost use Rattle.slots.specs.Lasting.{IsLasting};
 ghost use Rattle.forest.specs.LastingOpening.{first_memory};
 ghost use Rattle.forest.specs.Seats.{StaysAtTable};
 ghost use Rattle.forest.specs.Slotted.{in_turns};
-ghost use Rattle.forest.specs.UpkeepBook.{HasEnded, IsAtLasting, slots_in};
-ghost use Rattle.forest.specs.UpkeepKeeper.{AreFirstUsed, AreInUse, AwaitsNobody, HasTakenAll, HasTakenRest, HasTurnedSlots, IsAwaited, IsBack, IsBackDuring, IsBetween, IsKeeper};
+ghost use Rattle.arena.specs.Machines.{IsRun};
+ghost use Rattle.arena.specs.Share.{Remaining};
+ghost use Rattle.forest.specs.Shares.{EndsAsDealt};
+ghost use Rattle.forest.specs.TableRule.{past_of};
+ghost use Rattle.forest.specs.UpkeepBook.{HasEnded, IsAtLasting, IsBook, slots_in};
+ghost use Rattle.forest.specs.UpkeepDeals.{AreSlotsStill, DealsOn, HasDealt, HasLeft, next_of};
+ghost use Rattle.forest.specs.UpkeepKeeper.{AreFirstUsed, AreInUse, AwaitsNobody, HasTakenAll, HasTakenRest, HasTurnedSlots, IsAwaited, IsBack, IsBackDuring, IsBetween, IsKeeper, IsSetNow, IsSetToCall};
 ghost use Rattle.forest.specs.UpkeepSteps.{RestsOn};
 ghost use Rattle.forest.specs.declared.view.SeatedPass.{SeatedPass};
 
 use crate::rule::Turns;
 use crate::upkeep::book::{Known, OwnSlot, OwnSlots};
+use crate::upkeep::deal::deal;
 use crate::upkeep::kind::RecordKind;
 use crate::upkeep::period::Period;
 use crate::upkeep::turn::turn_all;
@@ -80,11 +86,35 @@ impl Keeper {
     }
 
     /// A pass rests, or is back from where it was, between two calls. If by then all others have
-    /// rested since its period began, what it knows of its slots goes on, and the next begins. It
-    /// makes up to 1 + 2 * (passes - 1) steps, and where a period ends up to 20 for each of its
-    /// slots. Once it has rested as often as a word can tell it does nothing more: then nothing
-    /// comes back any more.
+    /// rested since its period began, what it knows of its slots goes on, and the next begins. If
+    /// few names are left of its share, free slots get the next ones, so many in a row, and the
+    /// share has those.
+    ///
+    /// It makes up to 1 + 2 * (passes - 1) steps, where a period ends up to 20 more for each of its
+    /// slots, and where names are dealt up to 60 of each kind, and one for each name.
     pub(crate) fn rest<S: Shape>(
+        &mut self,
+        words: &Words<S>,
+        layout: &Layout,
+        seat: &mut Seat<u8, SeatView>,
+        number: PassNo,
+        left: &mut Share,
+    )
+        requires { (p : SeatedPass) × IsAtLasting words.now layout.now seat.old p
+            × (p.number ≡ number) × IsRun S.allows p.layout (past_of p [])
+            × IsBetween p left.old × EndsAsDealt left.old p.memory
+            × IsKeeper (slots_in words.now) p self.old }
+        ensures table { StaysAtTable seat.old seat.new }
+        ensures rests { DealsOn (IsSetNow S.allows (slots_in words.now) left.new self.new)
+            seat.old.me.0 seat.new.me.0 }
+    {
+        self.take_rest(words, layout, seat, number, left);
+        self.deal(words, layout, seat, left);
+    }
+
+    /// A pass rests. Once it has rested as often as a word can tell it does nothing more: nothing
+    /// comes back then any more.
+    fn take_rest<S: Shape>(
         &mut self,
         words: &Words<S>,
         layout: &Layout,
@@ -174,6 +204,33 @@ impl Keeper {
         self.period = Some(Period::begin(words, layout, seat, number));
     }
 
+    /// If few names are left of the pass's share, it has the next ones then.
+    fn deal<S: Shape>(
+        &mut self,
+        words: &Words<S>,
+        layout: &Layout,
+        seat: &mut Seat<u8, SeatView>,
+        left: &mut Share,
+    )
+        requires { (p : SeatedPass) × IsAtLasting words.now layout.now seat.old p
+            × IsSetToCall S.allows (slots_in words.now) p left.old self.old }
+        ensures table { StaysAtTable seat.old seat.new }
+        ensures set { DealsOn (IsSetNow S.allows (slots_in words.now) left.new self.new)
+            seat.old.me.0 seat.new.me.0 }
+    {
+        let (node, scx) = left.next();
+        let (nodes, scxs) = left.left();
+        let (few, one) = (layout.nodes.min(3), layout.scx.min(1));
+        let node = next_name(words, layout, seat, &mut self.nodes, node.0, nodes, few);
+        let scx = next_name(words, layout, seat, &mut self.scxs, scx.0, scxs, one);
+        *left = Share::of_run(
+            NodeNo(node),
+            (self.nodes.dealt - node) as u32,
+            ScxNo(scx),
+            (self.scxs.dealt - scx) as u32,
+        );
+    }
+
     /// The first pass that is waited for: until it rests or goes away, nothing comes back that was
     /// found before the period began.
     pub(crate) fn waits_for(&self) -> Option<PassNo>
@@ -184,6 +241,34 @@ impl Keeper {
             Some(period) => period.waits_for(),
             None => None,
         }
+    }
+}
+
+/// The next name of a share with so many left: of a new run, if those are fewer than that.
+fn next_name<S: Shape>(
+    words: &Words<S>,
+    layout: &Layout,
+    seat: &mut Seat<u8, SeatView>,
+    own: &mut OwnSlots,
+    next: u64,
+    left: u32,
+    least: u32,
+) -> u64
+    requires left { (own.old.dealt ≡ next + left) × (own.old.dealt ≤ own.old.end) }
+    requires slots { (least ≤ length own.old.slots.items) × (length own.old.slots.items < 2 ^ 32) }
+    requires pass { (p : SeatedPass) × (left : Remaining) × (since : List Row)
+        × IsAtLasting words.now layout.now seat.old p × HasLeft S.allows p left
+        × (next_of own.old.kind left ≡ next) × IsBook (slots_in words.now) p since own.old }
+    ensures table { StaysAtTable seat.old seat.new }
+    ensures still { AreSlotsStill own.old own.new }
+    ensures few { (result ≤ own.new.dealt) × (own.new.dealt < result + 2 ^ 32) }
+    ensures given { DealsOn (HasDealt S.allows (slots_in words.now) own.old own.new next result)
+        seat.old.me.0 seat.new.me.0 }
+{
+    if left < least {
+        deal(words, layout, seat, own, next)
+    } else {
+        next
     }
 }
 

@@ -1,66 +1,38 @@
-use Rattle.std.proofs.Common.{refl, sym, ◌∙◌, subst}
+use Rattle.std.proofs.Common.{◌<◌, sym, subst}
+use Rattle.histories.specs.Common.{Layout}
 use Rattle.forest.specs.UpkeepBook.{slots_in}
-use Rattle.forest.specs.UpkeepKeeper.{HasTakenRest, RunsSince}
-use Rattle.forest.specs.UpkeepSteps.{RemembersRest}
-use Rattle.forest.proofs.UpkeepKeeper.{all_taken, back_during, back_now, rest_deals, rested_after, rests_no_more, taken_still}
-use Rattle.forest.proofs.UpkeepLooks.{at_now}
-use Rattle.forest.proofs.UpkeepSteps.{seat_on, seat_still}
+use Rattle.forest.specs.UpkeepKeeper.{HasTakenRest, IsSetNow}
+use Rattle.forest.proofs.UpkeepDeals.{deals_on, rests_deal}
+use Rattle.forest.proofs.UpkeepLooks.{at_now, passes_in}
+use Rattle.forest.proofs.UpkeepSet.{set_rested}
 use Rattle.forest.proofs.UpkeepTurn.{from_pass}
 use Rattle.forest.proofs.upkeep.keeper.Keeper.rest.Goals as goal
 
-pub returns-then-self-ge-MOST_RESTS-clause-rests : goal.returns-then-self-ge-MOST_RESTS-clause-rests
-returns-then-self-ge-MOST_RESTS-clause-rests g c =
-    let r = c.requires in
-    let t = slots_in c.args.words.now in
-    seat_still g.S.Shape.allows (HasTakenRest t c.args.self.now) r.0 c.args.seat.now.me.0 r.1.alone (rests_no_more t r.0 c.args.self.now c.if-self-ge-MOST_RESTS.true r.4)
+pub take_rest-requires : goal.take_rest-requires
+take_rest-requires g c = let r = c.requires in (r.0, r.1, r.2, r.4, r.6)
 
-pub rest-self-requires-clause-between : goal.rest-self-requires-clause-between
-rest-self-requires-clause-between g c = let r = c.requires in (r.0, r.1.alone, r.2, sym r.4.slots.often, r.3.over)
-
-pub begin-requires : goal.begin-requires
-begin-requires g c =
+pub deal-requires : goal.deal-requires
+deal-requires g c =
     let allows = g.S.Shape.allows in
     let words = c.args.words.now in
     let lay = c.args.layout.now in
     let t = slots_in words in
     let r = c.requires in
-    let old = c.args.self.now in
-    let x = c.rest-self.ensures.rests in
-    let on = from_pass allows RemembersRest c.args.seat.now.me.0 c.rest-self.new.seat.me.0 r.0 r.1.alone x in (
+    let x = c.take_rest.ensures.rests in
+    let so = HasTakenRest t c.take_rest.new.self in
+    let on = from_pass allows so c.args.seat.now.me.0 c.take_rest.new.seat.me.0 r.0 r.1.alone x in (
       x.later,
-      r.4.since,
-      at_now words lay allows RemembersRest c.args.seat.now c.rest-self.new.seat r.0 r.1 c.rest-self.ensures.table x,
-      on.0.number ∙ r.2,
-      back_now allows t r.0 x.later on.0 on.1 old record old { often = c.rest-self.result } c.rest-self.ensures.often refl refl r.4.since r.4.slots,
+      at_now words lay allows so c.args.seat.now c.take_rest.new.seat r.0 r.1 c.take_rest.ensures.table x,
+      set_rested allows t c.take_rest.new.self r.0 x.later c.args.left.now on.0 (subst (λ (l : Layout). r.0.number.0 < l.passes) (sym r.1.names) (passes_in words lay c.args.seat.now r.0 r.1)) r.3 r.4 r.5 on.1,
     )
 
-pub go_on-requires : goal.go_on-requires
-go_on-requires g c =
+pub returns-clause-rests : goal.returns-clause-rests
+returns-clause-rests g c =
     let allows = g.S.Shape.allows in
     let words = c.args.words.now in
     let lay = c.args.layout.now in
     let t = slots_in words in
     let r = c.requires in
-    let old = c.args.self.now in
-    let x = c.rest-self.ensures.rests in
-    let on = from_pass allows RemembersRest c.args.seat.now.me.0 c.rest-self.new.seat.me.0 r.0 r.1.alone x in (
-      x.later,
-      r.4.since,
-      at_now words lay allows RemembersRest c.args.seat.now c.rest-self.new.seat r.0 r.1 c.rest-self.ensures.table x,
-      on.0.number ∙ r.2,
-      back_during allows t r.0 x.later on.0 on.1 old record old { often = c.rest-self.result } c.rest-self.ensures.often refl refl r.4.since c.in-Some.period
-          (subst (RunsSince t.table.passes r.0 r.4.since) c.in-Some.is r.4.period) r.4.slots,
-      taken_still allows t r.0 x.later on.0 c.args.left.now (all_taken r.0 c.args.left.now r.3),
-    )
-
-pub returns-in-None-clause-rests : goal.returns-in-None-clause-rests
-returns-in-None-clause-rests g c =
-    let t = slots_in c.args.words.now in
-    let rests = HasTakenRest t c.begin.new.self in
-    seat_on g.S.Shape.allows RemembersRest rests rests c.args.seat.now.me.0 c.rest-self.new.seat.me.0 c.begin.new.seat.me.0 (λ p q r e x. rested_after t c.begin.new.self p q r (rest_deals p q e) x) c.rest-self.ensures.rests c.begin.ensures.rests
-
-pub returns-in-Some-clause-rests : goal.returns-in-Some-clause-rests
-returns-in-Some-clause-rests g c =
-    let t = slots_in c.args.words.now in
-    let rests = HasTakenRest t c.go_on.new.self in
-    seat_on g.S.Shape.allows RemembersRest rests rests c.args.seat.now.me.0 c.rest-self.new.seat.me.0 c.go_on.new.seat.me.0 (λ p q r e x. rested_after t c.go_on.new.self p q r (rest_deals p q e) x) c.rest-self.ensures.rests c.go_on.ensures.rests
+    let one = HasTakenRest t c.take_rest.new.self in
+    let two = IsSetNow allows t c.deal.new.left c.deal.new.self in
+    deals_on one two two c.args.seat.now.me.0 c.take_rest.new.seat.me.0 c.deal.new.seat.me.0 (λ p q r a b. b) (rests_deal allows one c.args.seat.now.me.0 c.take_rest.new.seat.me.0 c.take_rest.ensures.rests) c.deal.ensures.set

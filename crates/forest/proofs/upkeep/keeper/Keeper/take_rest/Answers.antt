@@ -1,0 +1,66 @@
+use Rattle.std.proofs.Common.{refl, sym, ◌∙◌, subst}
+use Rattle.forest.specs.UpkeepBook.{slots_in}
+use Rattle.forest.specs.UpkeepKeeper.{HasTakenRest, RunsSince}
+use Rattle.forest.specs.UpkeepSteps.{RemembersRest}
+use Rattle.forest.proofs.UpkeepKeeper.{all_taken, back_during, back_now, rest_deals, rested_after, rests_no_more, taken_still}
+use Rattle.forest.proofs.UpkeepLooks.{at_now}
+use Rattle.forest.proofs.UpkeepSteps.{seat_on, seat_still}
+use Rattle.forest.proofs.UpkeepTurn.{from_pass}
+use Rattle.forest.proofs.upkeep.keeper.Keeper.take_rest.Goals as goal
+
+pub returns-then-self-ge-MOST_RESTS-clause-rests : goal.returns-then-self-ge-MOST_RESTS-clause-rests
+returns-then-self-ge-MOST_RESTS-clause-rests g c =
+    let r = c.requires in
+    let t = slots_in c.args.words.now in
+    seat_still g.S.Shape.allows (HasTakenRest t c.args.self.now) r.0 c.args.seat.now.me.0 r.1.alone (rests_no_more t r.0 c.args.self.now c.if-self-ge-MOST_RESTS.true r.4)
+
+pub rest-self-requires-clause-between : goal.rest-self-requires-clause-between
+rest-self-requires-clause-between g c = let r = c.requires in (r.0, r.1.alone, r.2, sym r.4.slots.often, r.3.over)
+
+pub begin-requires : goal.begin-requires
+begin-requires g c =
+    let allows = g.S.Shape.allows in
+    let words = c.args.words.now in
+    let lay = c.args.layout.now in
+    let t = slots_in words in
+    let r = c.requires in
+    let old = c.args.self.now in
+    let x = c.rest-self.ensures.rests in
+    let on = from_pass allows RemembersRest c.args.seat.now.me.0 c.rest-self.new.seat.me.0 r.0 r.1.alone x in (
+      x.later,
+      r.4.since,
+      at_now words lay allows RemembersRest c.args.seat.now c.rest-self.new.seat r.0 r.1 c.rest-self.ensures.table x,
+      on.0.number ∙ r.2,
+      back_now allows t r.0 x.later on.0 on.1 old record old { often = c.rest-self.result } c.rest-self.ensures.often refl refl r.4.since r.4.slots,
+    )
+
+pub go_on-requires : goal.go_on-requires
+go_on-requires g c =
+    let allows = g.S.Shape.allows in
+    let words = c.args.words.now in
+    let lay = c.args.layout.now in
+    let t = slots_in words in
+    let r = c.requires in
+    let old = c.args.self.now in
+    let x = c.rest-self.ensures.rests in
+    let on = from_pass allows RemembersRest c.args.seat.now.me.0 c.rest-self.new.seat.me.0 r.0 r.1.alone x in (
+      x.later,
+      r.4.since,
+      at_now words lay allows RemembersRest c.args.seat.now c.rest-self.new.seat r.0 r.1 c.rest-self.ensures.table x,
+      on.0.number ∙ r.2,
+      back_during allows t r.0 x.later on.0 on.1 old record old { often = c.rest-self.result } c.rest-self.ensures.often refl refl r.4.since c.in-Some.period
+          (subst (RunsSince t.table.passes r.0 r.4.since) c.in-Some.is r.4.period) r.4.slots,
+      taken_still allows t r.0 x.later on.0 c.args.left.now (all_taken r.0 c.args.left.now r.3),
+    )
+
+pub returns-in-None-clause-rests : goal.returns-in-None-clause-rests
+returns-in-None-clause-rests g c =
+    let t = slots_in c.args.words.now in
+    let rests = HasTakenRest t c.begin.new.self in
+    seat_on g.S.Shape.allows RemembersRest rests rests c.args.seat.now.me.0 c.rest-self.new.seat.me.0 c.begin.new.seat.me.0 (λ p q r e x. rested_after t c.begin.new.self p q r (rest_deals p q e) x) c.rest-self.ensures.rests c.begin.ensures.rests
+
+pub returns-in-Some-clause-rests : goal.returns-in-Some-clause-rests
+returns-in-Some-clause-rests g c =
+    let t = slots_in c.args.words.now in
+    let rests = HasTakenRest t c.go_on.new.self in
+    seat_on g.S.Shape.allows RemembersRest rests rests c.args.seat.now.me.0 c.rest-self.new.seat.me.0 c.go_on.new.seat.me.0 (λ p q r e x. rested_after t c.go_on.new.self p q r (rest_deals p q e) x) c.rest-self.ensures.rests c.go_on.ensures.rests
