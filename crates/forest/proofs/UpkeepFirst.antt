@@ -117,7 +117,7 @@ module _ (t : Lasting) (lasting : IsLasting t) (o : ℕ) (is_pass : o < t.lay.pa
   names_end Scx count name turn is_count is_name is_turn = rw (is_count, is_name, is_turn) (let all = lasting.scx in omega (arith, all))
 
   -- and no name is too high for a word
-  pub names_fit : (kind : RecordKind) → first_own kind t.lay o + count_own kind t.lay < 2 ^ 63
+  pub names_fit : (kind : RecordKind) → first_own kind t.lay o + count_own kind t.lay < 2 ^ 56
   names_fit Node =
       let few = t.lay.nodes_fit in
       let start = start_few t.lay.mode t.lay.planted t.lay.planted_fit in

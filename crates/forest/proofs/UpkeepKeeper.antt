@@ -1,13 +1,13 @@
 -- What a pass keeps of its rests and slots stays right while it makes calls, and as it rests.
 use Rattle.std.proofs.Common.{◌≡◌, ◌≢◌, ◌<◌, ◌≤◌, ◌+◌, ◌⊎◌, ℕ, suc, false, List, [], ◌∷◌, Option, Some, None, inl, inr, refl, sym, ◌∙◌, ap, subst, arith}
 use Rattle.arena.proofs.Lemmas.{ends_self, ends_trans}
-use Rattle.histories.specs.Common.{Layout, Remaining, Row, History, Extends}
+use Rattle.histories.specs.Common.{Layout, Row, History, Extends}
 use Rattle.planting.specs.Plantings.{PlantingView}
 use Rattle.slots.specs.Lasting.{Lasting}
 use Rattle.forest.specs.LastingNotes.{HasSeenAllRest, IsAmongThese, memory_rested}
 use Rattle.forest.specs.TableRule.{history_of, past_of}
-use Rattle.forest.specs.UpkeepBook.{HasEnded, HasTurned, IsBook, KeepsRests, SparesOthers, dealt_of}
-use Rattle.forest.specs.UpkeepKeeper.{DealsNoMore, HasTakenAll, HasTakenRest, HasTurnedSlots, IsBack, IsBackDuring, IsBetween, IsKeeper, KeepsSlotsSince, RunsSince}
+use Rattle.forest.specs.UpkeepBook.{HasEnded, HasTurned, IsBook, KeepsRests, SparesOthers, dealt_of, turn_of}
+use Rattle.forest.specs.UpkeepKeeper.{DealsNoMore, HasTakenRest, HasTurnedSlots, IsBack, IsBackDuring, IsKeeper, KeepsSlotsSince, RunsSince}
 use Rattle.forest.specs.UpkeepPeriod.{BeginsPeriod, HasPeriod}
 use Rattle.forest.specs.UpkeepSteps.{HasGoneOnResting, KeepsSlots, RemembersRest, RestsOn}
 use Rattle.forest.specs.declared.memory.PassMemory.{PassMemory}
@@ -21,7 +21,7 @@ use Rattle.forest.specs.declared.view.SeatView.{SeatView}
 use Rattle.forest.proofs.UpkeepPeriod.{period_stays, rests_since}
 use Rattle.forest.proofs.UpkeepSteps.{knows_more}
 use Rattle.forest.proofs.UpkeepTurn.{from_pass}
-use Rattle.forest.proofs.UpkeepTurns.{own_on, slot_kept, taken_on}
+use Rattle.forest.proofs.UpkeepTurns.{own_on, slot_kept}
 
 -- Slots
 
@@ -120,20 +120,10 @@ rests_no_more t p keeper many x = record {
     go (inl few) = absurd (omega (arith, few, many))
     go (inr e) = e
 
--- names are taken before what is left of a share
-pub all_taken : (p : SeatedPass) (left : Remaining) → IsBetween p left → HasTakenAll p left
-all_taken p left x = record { nodes = x.share.taken_nodes; scxs = x.share.taken_scx }
-
 module _ (allows : Layout → History → ℕ → Type 0) (t : Lasting) (p q : SeatedPass) (goes : HasGoneOnResting allows p q) where
   -- a moment that the pass knew, it knows
   still_known : (rows : List Row) → Extends (past_of p []) (history_of p.planting rows) → Extends (past_of q []) (history_of q.planting rows)
   still_known rows known = ends_trans (past_of q []) (history_of q.planting p.known) (history_of q.planting rows) (knows_more allows p q goes) (subst (λ (l : PlantingView). Extends (history_of l p.known) (history_of l rows)) (sym goes.planting) known)
-
-  pub taken_still : (left : Remaining) → HasTakenAll p left → HasTakenAll q left
-  taken_still left x = record {
-    nodes = taken_on allows p q goes Node Node left.next_node refl x.nodes;
-    scxs = taken_on allows p q goes Scx Scx left.next_scx refl x.scxs;
-  }
 
   -- once the pass has rested
   module _ (is : RemembersRest p q) (old new : Keeper) (often : new.often ≡ old.often + 1) (nodes : new.nodes ≡ old.nodes) (scxs : new.scxs ≡ old.scxs) where
@@ -213,3 +203,7 @@ module _ (allows : Layout → History → ℕ → Type 0) (t : Lasting) (p q r :
 -- what a step tells of the one pass of a seat, which is p, tells this
 pub seat_of : (allows : Layout → History → ℕ → Type 0) (one two : SeatedPass → SeatedPass → Type 0) (v w : SeatView) (p : SeatedPass) → v.passes ≡ p ∷ [] → (x : RestsOn allows one v w) → (HasGoneOnResting allows p x.later → one p x.later → two p x.later) → RestsOn allows two v w
 seat_of allows one two v w p alone x to = let y = from_pass allows one v w p alone x in record { pass = p; later = x.later; was = alone; is = x.is; goes_on = y.0; holds = to y.0 y.1 }
+
+-- by how many names on a node has the same slot
+pub node_turn_of : (t : Lasting) (p : SeatedPass) (since : List Row) (own : OwnSlots) → own.kind ≡ Node → IsBook t p since own → (0 < own.turn) × (own.turn ≡ t.node_turn)
+node_turn_of t p since own kind book = (own.turns.0, book.all.turn ∙ ap (λ (k : RecordKind). turn_of k t) kind)

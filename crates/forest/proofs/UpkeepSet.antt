@@ -5,7 +5,9 @@ use Rattle.arena.proofs.Lemmas.{ends_trans}
 use Rattle.arena.specs.declared.number.PassNo.{PassNo}
 use Rattle.histories.specs.Common.{Layout, Remaining, Row, History, Extends, IsRun}
 use Rattle.planting.specs.Plantings.{PlantingView}
-use Rattle.prims.specs.Shares.{share_end}
+use Rattle.prims.specs.Moments.{AreFinished}
+use Rattle.prims.specs.Shares.{IsShare, share_end}
+use Rattle.prims.proofs.Lemmas.{all_over}
 use Rattle.slots.specs.Lasting.{Lasting}
 use Rattle.forest.specs.Shares.{EndsAsDealt}
 use Rattle.forest.specs.TableRule.{history_of, past_of}
@@ -25,7 +27,12 @@ use Rattle.forest.specs.declared.words.Words.{Words}
 use Rattle.forest.proofs.Ruled.{same_pass}
 use Rattle.forest.proofs.UpkeepDeals.{deals_as, deals_on, left_on}
 use Rattle.forest.proofs.UpkeepKeeper.{kinds_apart, runs_on}
+use Rattle.forest.proofs.UpkeepLooks.{passes_in}
 use Rattle.forest.proofs.UpkeepSteps.{extends_known}
+
+-- the pass is one of those of its layout
+pub own_pass : {S : Type 0} (words : Words S) (lay : Layout) (seat : Seat ℕ SeatView) (p : SeatedPass) → IsAtLasting words lay seat p → p.number.0 < p.layout.passes
+own_pass words lay seat p at = subst (λ (l : Layout). p.number.0 < l.passes) (sym at.names) (passes_in words lay seat p at)
 
 -- After a rest
 
@@ -169,3 +176,9 @@ left_inside allows t p since own kind left is lay book has ends =
 -- how many slots there are of a kind
 pub own_count : (t : Lasting) (lay : Layout) (p : SeatedPass) (since : List Row) (own : OwnSlots) (kind : RecordKind) → own.kind ≡ kind → IsBook t p since own → t.table ≡ lay → length own.slots.items ≡ count_own kind lay
 own_count t lay p since own kind is book same = book.all.count ∙ ap (λ (k : RecordKind). count_own k t.table) is ∙ ap (count_own kind) same
+
+-- Between two calls
+
+-- so it is where only the next of its SCX-records could be unfinished, which it has not taken
+pub is_between : (p : SeatedPass) (left : Remaining) → IsShare p.layout (past_of p []) p.number.0 left left.next_node left.next_scx → AreFinished p.layout p.number.0 left.next_scx (past_of p []) → IsBetween p left
+is_between p left share over = record { share = share; over = all_over p.layout (past_of p []) p.number.0 left left.next_node left.next_scx share over }

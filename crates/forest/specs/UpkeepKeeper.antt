@@ -6,7 +6,7 @@ use Rattle.prims.specs.Moments.{AreFinished}
 use Rattle.prims.specs.Shares.{IsShare}
 use Rattle.slots.specs.Lasting.{Lasting}
 use Rattle.forest.specs.TableRule.{history_of, past_of}
-use Rattle.forest.specs.UpkeepBook.{HasTakenBelow, IsBook}
+use Rattle.forest.specs.UpkeepBook.{IsBook}
 use Rattle.forest.specs.Shares.{EndsAsDealt}
 use Rattle.forest.specs.UpkeepDeals.{HasLeft}
 use Rattle.forest.specs.UpkeepPeriod.{HasPeriod, IsFirstWaited, WaitsForNobody}
@@ -80,11 +80,6 @@ pub record IsBackDuring (t : Lasting) (p : SeatedPass) (rows : List Row) (period
   pub back : IsBack t p rows keeper
   pub rested : Extends (history_of p.planting p.memory.rested) (history_of p.planting rows)
   pub runs : HasPeriod t.table.passes p rows period
-
--- the pass has taken all of its names that are before these two
-pub record HasTakenAll (p : SeatedPass) (left : Remaining) : Type 0 where
-  pub nodes : HasTakenBelow p Node left.next_node
-  pub scxs : HasTakenBelow p Scx left.next_scx
 
 -- no period runs, or it waits for nobody any more
 abbrev pub AwaitsNobody : Option Period → Type 0

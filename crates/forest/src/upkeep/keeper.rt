@@ -13,7 +13,7 @@ ghost use Rattle.forest.specs.Shares.{EndsAsDealt};
 ghost use Rattle.forest.specs.TableRule.{past_of};
 ghost use Rattle.forest.specs.UpkeepBook.{HasEnded, IsAtLasting, IsBook, slots_in};
 ghost use Rattle.forest.specs.UpkeepDeals.{AreSlotsStill, DealsOn, HasDealt, HasLeft, next_of};
-ghost use Rattle.forest.specs.UpkeepKeeper.{AreFirstUsed, AreInUse, AwaitsNobody, HasTakenAll, HasTakenRest, HasTurnedSlots, IsAwaited, IsBack, IsBackDuring, IsBetween, IsKeeper, IsSetNow, IsSetToCall};
+ghost use Rattle.forest.specs.UpkeepKeeper.{AreFirstUsed, AreInUse, AwaitsNobody, HasTakenRest, HasTurnedSlots, IsAwaited, IsBack, IsBackDuring, IsBetween, IsKeeper, IsSetNow, IsSetToCall};
 ghost use Rattle.forest.specs.UpkeepSteps.{RestsOn};
 ghost use Rattle.forest.specs.declared.view.SeatedPass.{SeatedPass};
 
@@ -123,8 +123,8 @@ impl Keeper {
         left: &Share,
     )
         requires { (p : SeatedPass) × IsAtLasting words.now layout.now seat.old p
-            × (p.number ≡ number) × IsBetween p left.now
-            × IsKeeper (slots_in words.now) p self.old }
+            × (p.number ≡ number) × IsRun S.allows p.layout (past_of p [])
+            × IsBetween p left.now × IsKeeper (slots_in words.now) p self.old }
         ensures table { StaysAtTable seat.old seat.new }
         ensures rests { RestsOn S.allows (HasTakenRest (slots_in words.now) self.new)
             seat.old.me.0 seat.new.me.0 }
@@ -152,7 +152,7 @@ impl Keeper {
     )
         requires { (p : SeatedPass) × (since : List Row)
             × IsAtLasting words.now layout.now seat.old p × (p.number ≡ number)
-            × IsBackDuring (slots_in words.now) p since period self.old × HasTakenAll p left.now }
+            × IsBackDuring (slots_in words.now) p since period self.old × HasLeft S.allows p left.now }
         ensures table { StaysAtTable seat.old seat.new }
         ensures rests { RestsOn S.allows (HasTakenRest (slots_in words.now) self.new)
             seat.old.me.0 seat.new.me.0 }
@@ -176,14 +176,15 @@ impl Keeper {
         requires { (p : SeatedPass) × (since : List Row)
             × IsAtLasting words.now layout.now seat.old p
             × IsBack (slots_in words.now) p since self.old
-            × HasEnded (slots_in words.now) p since × HasTakenAll p left.now }
+            × HasEnded (slots_in words.now) p since × HasLeft S.allows p left.now }
         ensures table { StaysAtTable seat.old seat.new }
         ensures turned { RestsOn S.allows (HasTurnedSlots (slots_in words.now) self.new)
             seat.old.me.0 seat.new.me.0 }
     {
         let (node, scx) = left.next();
-        turn_all(words, layout, seat, &mut self.nodes, node.0);
-        turn_all(words, layout, seat, &mut self.scxs, scx.0);
+        let node_turn = self.nodes.turn;
+        turn_all(words, layout, seat, &mut self.nodes, node.0, node_turn);
+        turn_all(words, layout, seat, &mut self.scxs, scx.0, node_turn);
     }
 
     /// Begins a period.
@@ -284,7 +285,8 @@ impl OwnSlots {
         laps: u64,
         turn: u64,
     ) -> Result<OwnSlots, NoMemory>
-        requires { name + count + laps * turn < 2 ^ 64 }
+        requires names { name + count + laps * turn ≤ 2 ^ 61 }
+        requires turn { (0 < turn) × (turn ≤ 2 ^ 61) }
         ensures { IfOk result (λ own. AreInUse own kind first count name laps turn) }
     {
         Ok(OwnSlots {
@@ -301,7 +303,8 @@ impl OwnSlots {
 /// How many names on by so many bits one has the same slot.
 fn turn_by(bits: u32) -> u64
     requires { bits ≤ 29 }
-    ensures { result ≡ 2 ^ bits }
+    ensures is { result ≡ 2 ^ bits }
+    ensures few { (0 < result) × (result ≤ 2 ^ 61) }
 {
     1 << bits
 }

@@ -3,7 +3,8 @@ use Rattle.histories.specs.Common.{Layout}
 use Rattle.forest.specs.UpkeepBook.{slots_in}
 use Rattle.forest.specs.UpkeepKeeper.{HasTakenRest, HasTurnedSlots}
 use Rattle.forest.specs.UpkeepPeriod.{HasPeriod, PollsOn}
-use Rattle.forest.proofs.UpkeepKeeper.{back_polled, period_ended, period_waits, polls_deal, rested_after, seat_of, taken_still}
+use Rattle.forest.proofs.UpkeepDeals.{left_on}
+use Rattle.forest.proofs.UpkeepKeeper.{back_polled, period_ended, period_waits, polls_deal, rested_after, seat_of}
 use Rattle.forest.proofs.UpkeepLooks.{at_now, table_in}
 use Rattle.forest.proofs.UpkeepSteps.{seat_on}
 use Rattle.forest.proofs.UpkeepTurn.{from_pass}
@@ -33,7 +34,7 @@ turn-requires g c =
       at_now words lay allows so c.args.seat.now c.poll.new.seat r.0 r.2 c.poll.ensures.table x,
       back,
       period_ended allows t r.0 x.later on.0 on.1.keeps keeper keeper refl refl refl r.1 r.4.back r.4.rested (λ own. c.poll.ensures.over c.if-poll.true x.later r.1 runs back.there own),
-      taken_still allows t r.0 x.later on.0 c.args.left.now r.5,
+      left_on allows r.0 x.later c.args.left.now on.0 on.1.keeps.away r.5,
     )
 
 pub begin-requires : goal.begin-requires

@@ -1,15 +1,13 @@
-use Rattle.std.proofs.Common.{◌<◌, sym, subst}
-use Rattle.histories.specs.Common.{Layout}
 use Rattle.forest.specs.UpkeepBook.{slots_in}
 use Rattle.forest.specs.UpkeepKeeper.{HasTakenRest, IsSetNow}
 use Rattle.forest.proofs.UpkeepDeals.{deals_on, rests_deal}
-use Rattle.forest.proofs.UpkeepLooks.{at_now, passes_in}
-use Rattle.forest.proofs.UpkeepSet.{set_rested}
+use Rattle.forest.proofs.UpkeepLooks.{at_now}
+use Rattle.forest.proofs.UpkeepSet.{own_pass, set_rested}
 use Rattle.forest.proofs.UpkeepTurn.{from_pass}
 use Rattle.forest.proofs.upkeep.keeper.Keeper.rest.Goals as goal
 
 pub take_rest-requires : goal.take_rest-requires
-take_rest-requires g c = let r = c.requires in (r.0, r.1, r.2, r.4, r.6)
+take_rest-requires g c = let r = c.requires in (r.0, r.1, r.2, r.3, r.4, r.6)
 
 pub deal-requires : goal.deal-requires
 deal-requires g c =
@@ -23,7 +21,7 @@ deal-requires g c =
     let on = from_pass allows so c.args.seat.now.me.0 c.take_rest.new.seat.me.0 r.0 r.1.alone x in (
       x.later,
       at_now words lay allows so c.args.seat.now c.take_rest.new.seat r.0 r.1 c.take_rest.ensures.table x,
-      set_rested allows t c.take_rest.new.self r.0 x.later c.args.left.now on.0 (subst (λ (l : Layout). r.0.number.0 < l.passes) (sym r.1.names) (passes_in words lay c.args.seat.now r.0 r.1)) r.3 r.4 r.5 on.1,
+      set_rested allows t c.take_rest.new.self r.0 x.later c.args.left.now on.0 (own_pass words lay c.args.seat.now r.0 r.1) r.3 r.4 r.5 on.1,
     )
 
 pub returns-clause-rests : goal.returns-clause-rests

@@ -1,9 +1,11 @@
-use Rattle.std.proofs.Common.{refl, sym, ◌∙◌, subst}
+use Rattle.std.proofs.Common.{ap, refl, sym, ◌∙◌, subst}
 use Rattle.forest.specs.UpkeepBook.{slots_in}
 use Rattle.forest.specs.UpkeepKeeper.{HasTakenRest, RunsSince}
 use Rattle.forest.specs.UpkeepSteps.{RemembersRest}
-use Rattle.forest.proofs.UpkeepKeeper.{all_taken, back_during, back_now, rest_deals, rested_after, rests_no_more, taken_still}
+use Rattle.forest.specs.declared.memory.PassMemory.{PassMemory}
+use Rattle.forest.proofs.UpkeepKeeper.{back_during, back_now, rest_deals, rested_after, rests_no_more}
 use Rattle.forest.proofs.UpkeepLooks.{at_now}
+use Rattle.forest.proofs.UpkeepSet.{left_rested, own_pass}
 use Rattle.forest.proofs.UpkeepSteps.{seat_on, seat_still}
 use Rattle.forest.proofs.UpkeepTurn.{from_pass}
 use Rattle.forest.proofs.upkeep.keeper.Keeper.take_rest.Goals as goal
@@ -12,10 +14,10 @@ pub returns-then-self-ge-MOST_RESTS-clause-rests : goal.returns-then-self-ge-MOS
 returns-then-self-ge-MOST_RESTS-clause-rests g c =
     let r = c.requires in
     let t = slots_in c.args.words.now in
-    seat_still g.S.Shape.allows (HasTakenRest t c.args.self.now) r.0 c.args.seat.now.me.0 r.1.alone (rests_no_more t r.0 c.args.self.now c.if-self-ge-MOST_RESTS.true r.4)
+    seat_still g.S.Shape.allows (HasTakenRest t c.args.self.now) r.0 c.args.seat.now.me.0 r.1.alone (rests_no_more t r.0 c.args.self.now c.if-self-ge-MOST_RESTS.true r.5)
 
 pub rest-self-requires-clause-between : goal.rest-self-requires-clause-between
-rest-self-requires-clause-between g c = let r = c.requires in (r.0, r.1.alone, r.2, sym r.4.slots.often, r.3.over)
+rest-self-requires-clause-between g c = let r = c.requires in (r.0, r.1.alone, r.2, sym r.5.slots.often, r.4.over)
 
 pub begin-requires : goal.begin-requires
 begin-requires g c =
@@ -28,10 +30,10 @@ begin-requires g c =
     let x = c.rest-self.ensures.rests in
     let on = from_pass allows RemembersRest c.args.seat.now.me.0 c.rest-self.new.seat.me.0 r.0 r.1.alone x in (
       x.later,
-      r.4.since,
+      r.5.since,
       at_now words lay allows RemembersRest c.args.seat.now c.rest-self.new.seat r.0 r.1 c.rest-self.ensures.table x,
       on.0.number ∙ r.2,
-      back_now allows t r.0 x.later on.0 on.1 old record old { often = c.rest-self.result } c.rest-self.ensures.often refl refl r.4.since r.4.slots,
+      back_now allows t r.0 x.later on.0 on.1 old record old { often = c.rest-self.result } c.rest-self.ensures.often refl refl r.5.since r.5.slots,
     )
 
 pub go_on-requires : goal.go_on-requires
@@ -45,12 +47,12 @@ go_on-requires g c =
     let x = c.rest-self.ensures.rests in
     let on = from_pass allows RemembersRest c.args.seat.now.me.0 c.rest-self.new.seat.me.0 r.0 r.1.alone x in (
       x.later,
-      r.4.since,
+      r.5.since,
       at_now words lay allows RemembersRest c.args.seat.now c.rest-self.new.seat r.0 r.1 c.rest-self.ensures.table x,
       on.0.number ∙ r.2,
-      back_during allows t r.0 x.later on.0 on.1 old record old { often = c.rest-self.result } c.rest-self.ensures.often refl refl r.4.since c.in-Some.period
-          (subst (RunsSince t.table.passes r.0 r.4.since) c.in-Some.is r.4.period) r.4.slots,
-      taken_still allows t r.0 x.later on.0 c.args.left.now (all_taken r.0 c.args.left.now r.3),
+      back_during allows t r.0 x.later on.0 on.1 old record old { often = c.rest-self.result } c.rest-self.ensures.often refl refl r.5.since c.in-Some.period
+          (subst (RunsSince t.table.passes r.0 r.5.since) c.in-Some.is r.5.period) r.5.slots,
+      left_rested allows r.0 x.later c.args.left.now on.0 (ap (λ (m : PassMemory). m.away) on.1) (own_pass words lay c.args.seat.now r.0 r.1) r.3 r.4,
     )
 
 pub returns-in-None-clause-rests : goal.returns-in-None-clause-rests
