@@ -91,21 +91,6 @@ abbrev pub IsAwaited : Option Period → ℕ → Type 0
 IsAwaited None k = ⊥
 IsAwaited (Some period) k = IsFirstWaited period k
 
--- all of these slots are in use, by the names from this one on
-pub record AreFirstUsed (slots : List OwnSlot) (first count : ℕ) : Type 0 where
-  pub all : length slots ≡ count
-  pub used : (i : ℕ) (x : OwnSlot) → slice_get slots i ≡ Some x → x ≡ record { name = first + i; known = Used }
-
--- These are so many slots of a kind from the first on, all in use, by the names from this one on, of
--- which there are so many laps more.
-pub record AreInUse (own : OwnSlots) (kind : RecordKind) (first count name laps turn : ℕ) : Type 0 where
-  pub is_kind : own.kind ≡ kind
-  pub is_first : own.first ≡ first
-  pub is_turn : own.turn ≡ turn
-  pub end : own.end ≡ name + count + laps * turn
-  pub dealt : own.dealt ≡ name + count
-  pub used : AreFirstUsed own.slots.items name count
-
 -- The pass is there and between two calls, and has so much left of its share, which ends where its
 -- dealt names end; and what it keeps is right.
 pub record IsSetToCall (allows : Layout → History → ℕ → Type 0) (t : Lasting) (p : SeatedPass) (left : Remaining) (keeper : Keeper) : Type 0 where
