@@ -12,7 +12,7 @@ use Rattle.slots.specs.Lasting.{Lasting}
 use Rattle.forest.specs.Shares.{EndsAsDealt}
 use Rattle.forest.specs.TableRule.{history_of, past_of}
 use Rattle.forest.specs.Seats.{StaysAtTable}
-use Rattle.forest.specs.UpkeepBook.{IsAtLasting, IsBook, count_own, dealt_of, first_own}
+use Rattle.forest.specs.UpkeepBook.{IsAtLasting, IsBook, count_own, dealt_of}
 use Rattle.forest.specs.UpkeepDeals.{AreSlotsStill, DealsOn, HasDealt, HasGoneOnDealing, HasLeft, KeepsPolls, left_of, next_of, with_left}
 use Rattle.forest.specs.UpkeepKeeper.{DealsNoMore, HasTakenRest, IsBetween, IsSetNow, IsSetToCall, RunsSince}
 use Rattle.forest.specs.UpkeepSteps.{HasGoneOnResting}
@@ -160,18 +160,6 @@ kind_ends Scx m left ends = ap (λ (x : ℕ × ℕ). x.1) ends
 -- What is dealt ends where what is left does.
 pub left_is : (t : Lasting) (p : SeatedPass) (since : List Row) (own : OwnSlots) (kind : RecordKind) (left : Remaining) → own.kind ≡ kind → IsBook t p since own → EndsAsDealt left p.memory → own.dealt ≡ next_of kind left + left_of kind left
 left_is t p since own kind left is book ends = book.all.dealt ∙ ap (λ (k : RecordKind). dealt_of k p.memory) is ∙ sym (kind_ends kind p.memory left ends)
-
--- and no later than the pass's names
-pub left_inside : (allows : Layout → History → ℕ → Type 0) (t : Lasting) (p : SeatedPass) (since : List Row) (own : OwnSlots) (kind : RecordKind) (left : Remaining) → own.kind ≡ kind → p.layout ≡ t.lay → IsBook t p since own → HasLeft allows p left → EndsAsDealt left p.memory → own.dealt ≤ own.end
-left_inside allows t p since own kind left is lay book has ends =
-    let dealt = left_is t p since own kind left is book ends in
-    let end : own.end ≡ first_own kind p.layout p.number.0 + count_own kind p.layout = book.all.end ∙ ap (λ (k : RecordKind). first_own k t.lay p.number.0 + count_own k t.lay) is ∙ ap (λ (l : Layout). first_own kind l p.number.0 + count_own kind l) (sym lay) in
-    let below = go kind in
-    omega (arith, dealt, end, below)
-  where
-    go : (k : RecordKind) → next_of k left + left_of k left ≤ first_own k p.layout p.number.0 + count_own k p.layout
-    go Node = has.share.to_node
-    go Scx = has.share.to_scx
 
 -- how many slots there are of a kind
 pub own_count : (t : Lasting) (lay : Layout) (p : SeatedPass) (since : List Row) (own : OwnSlots) (kind : RecordKind) → own.kind ≡ kind → IsBook t p since own → t.table ≡ lay → length own.slots.items ≡ count_own kind lay

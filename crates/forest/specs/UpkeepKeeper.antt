@@ -1,6 +1,6 @@
 -- What a pass keeps from one call to the next so that its records come back, and what it is to be
 -- right.
-use Rattle.std.specs.Prelude.{◌≡◌, ◌<◌, ◌+◌, ◌⊎◌, ◌*◌, ℕ, false, List, [], Option, Some, None, length, slice_get}
+use Rattle.std.specs.Prelude.{◌≡◌, ◌<◌, ◌⊎◌, ℕ, false, List, [], Option, Some, None}
 use Rattle.histories.specs.Common.{Layout, Remaining, Row, History, Extends}
 use Rattle.prims.specs.Moments.{AreFinished}
 use Rattle.prims.specs.Shares.{IsShare}
@@ -11,11 +11,7 @@ use Rattle.forest.specs.Shares.{EndsAsDealt}
 use Rattle.forest.specs.UpkeepDeals.{HasLeft}
 use Rattle.forest.specs.UpkeepPeriod.{HasPeriod, IsFirstWaited, WaitsForNobody}
 use Rattle.forest.specs.declared.memory.PassMemory.{PassMemory}
-use Rattle.forest.specs.declared.upkeep.book.Known.TheVariants.{Used}
-use Rattle.forest.specs.declared.upkeep.book.OwnSlot.{OwnSlot}
-use Rattle.forest.specs.declared.upkeep.book.OwnSlots.{OwnSlots}
 use Rattle.forest.specs.declared.upkeep.keeper.Keeper.{Keeper}
-use Rattle.forest.specs.declared.upkeep.kind.RecordKind.{RecordKind}
 use Rattle.forest.specs.declared.upkeep.kind.RecordKind.TheVariants.{Node, Scx}
 use Rattle.forest.specs.declared.upkeep.period.Period.{Period}
 use Rattle.forest.specs.declared.view.SeatedPass.{SeatedPass}

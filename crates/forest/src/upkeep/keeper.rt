@@ -233,8 +233,8 @@ fn next_name<S: Shape>(
     left: u32,
     least: u32,
 ) -> u64
-    requires left { (own.old.dealt ≡ next + left) × (own.old.dealt ≤ own.old.end) }
-    requires slots { (least ≤ length own.old.slots.items) × (length own.old.slots.items < 2 ^ 32) }
+    requires left { own.old.dealt ≡ next + left }
+    requires slots { least ≤ length own.old.slots.items }
     requires pass { (p : SeatedPass) × (left : Remaining) × (since : List Row)
         × IsAtLasting words.now layout.now seat.old p × HasLeft S.allows p left
         × (next_of own.old.kind left ≡ next) × IsBook (slots_in words.now) p since own.old }
