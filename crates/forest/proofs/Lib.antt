@@ -78,3 +78,6 @@ mod Rested
 mod UpkeepScx
 mod UpkeepSet
 mod UpkeepOpening
+mod UpkeepKeeper
+mod UpkeepFirst
+mod UpkeepSet

@@ -1,5 +1,5 @@
 -- How free slots get names.
-use Rattle.std.proofs.Common.{◌≡◌, ◌≢◌, ◌<◌, ◌≤◌, ◌+◌, ◌-◌, ◌⊎◌, ◌++◌, ℕ, zero, suc, List, [], ◌∷◌, inl, inr, ⊎_elim, refl, sym, ◌∙◌, ap, subst, append_assoc, arith}
+use Rattle.std.proofs.Common.{◌≡◌, ◌<◌, ◌≤◌, ◌+◌, ◌++◌, ℕ, zero, suc, List, [], ◌∷◌, inl, inr, refl, sym, ◌∙◌, ap, subst, append_assoc, arith}
 use Rattle.arena.specs.declared.number.PassNo.{PassNo}
 use Rattle.arena.specs.declared.word.ScxWord.TheVariants.{Plan}
 use Rattle.histories.specs.Common.{Abort, Fill, Head, History, IsRun, Lawful, Layout, Remaining, Row, Seen, Settled, node, scx, state}
@@ -12,7 +12,6 @@ use Rattle.slots.specs.Passing.{row_over}
 use Rattle.forest.specs.LastingMemory.{record_at}
 use Rattle.forest.specs.LastingNames.{MayGiveName, past_nodes, past_scxs}
 use Rattle.forest.specs.LastingRule.{GoesOnWith}
-use Rattle.forest.specs.LastingSlots.{slot_number}
 use Rattle.forest.specs.Passes.{Each}
 use Rattle.forest.specs.TableRule.{ByOthers, history_of, past_of, seated_pass}
 use Rattle.forest.specs.UpkeepBook.{count_own, dealt_of, first_own, numbered}

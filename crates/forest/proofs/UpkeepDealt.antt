@@ -1,23 +1,21 @@
 -- What is known of slots once some have got names.
-use Rattle.std.proofs.Common.{◌≡◌, ◌≢◌, ◌<◌, ◌≤◌, ◌+◌, ◌-◌, ◌%◌, ℕ, zero, suc, List, [], ◌∷◌, Option, Some, None, length, slice_get, set, inl, inr, refl, sym, ◌∙◌, ap, subst, arith}
-use Rattle.std.proofs.lemmas.List.{length-set}
+use Rattle.std.proofs.Common.{◌≡◌, ◌≢◌, ◌<◌, ◌≤◌, ◌+◌, ◌-◌, ◌%◌, ℕ, zero, suc, List, [], ◌∷◌, Some, None, length, slice_get, set, inl, inr, refl, sym, ◌∙◌, ap, subst, arith}
 use native.Mathlib.Decide.{ℕ_discrete}
 use Rattle.atomic_table.specs.declared.shared.Seat.{Seat}
 use Rattle.arena.proofs.Lemmas.{ends_self}
 use Rattle.arena.specs.declared.number.PassNo.{PassNo}
 use Rattle.histories.specs.Common.{History, Layout, Remaining, Row}
-use Rattle.planting.specs.Plantings.{PlantingView}
 use Rattle.prims.specs.Shares.{IsShare}
-use Rattle.resting.specs.Records.{Record, record_of, the_node, the_scx}
+use Rattle.resting.specs.Records.{Record, record_of}
 use Rattle.slots.specs.Lasting.{IsOwnName, IsOwnRecord, Lasting, slot_of}
 use Rattle.forest.specs.LastingMemory.{record_at}
 use Rattle.forest.specs.LastingNotes.{IsAmongThese}
 use Rattle.forest.specs.LastingSlots.{IsLastDealt, IsNotBefore, memory_given_back, slot_number}
 use Rattle.forest.specs.TableRule.{history_of, past_of}
-use Rattle.forest.specs.UpkeepBook.{AreAllOwn, HasFreed, IsAtLasting, IsBook, IsCleanSlot, IsKnownSo, IsNameIn, IsOfKind, IsSlotSo, KeepsRests, SparesOthers, count_own, dealt_of, first_own, numbered, record_numbered, slots_in, turn_of}
-use Rattle.forest.specs.Seats.{IsSameSeat}
+use Rattle.forest.specs.UpkeepBook.{AreAllOwn, HasFreed, IsAtLasting, IsBook, IsKnownSo, IsNameIn, IsOfKind, IsSlotSo, KeepsRests, SparesOthers, count_own, dealt_of, first_own, numbered, record_numbered, slots_in, turn_of}
+use Rattle.forest.specs.Seats.{StaysAtTable}
 use Rattle.forest.specs.UpkeepSteps.{HasGoneOnResting, RestsOn}
-use Rattle.forest.specs.UpkeepDeals.{AreSlotsStill, DealsOn, HasDealt, HasGoneOnDealing, HasLeft, HasNameFor, IsFreeAt, IsNameAt, KeepsPolls, MayGet, ahead, memory_given, next_of, with_left}
+use Rattle.forest.specs.UpkeepDeals.{AreSlotsStill, DealsOn, HasDealt, HasGoneOnDealing, HasLeft, HasNameFor, IsFreeAt, IsNameAt, IsShareOf, KeepsPolls, MayGet, ahead, left_of, memory_given, next_of, with_left}
 use Rattle.forest.specs.declared.memory.PassMemory.{PassMemory}
 use Rattle.forest.specs.declared.memory.RecordNo.{RecordNo}
 use Rattle.forest.specs.declared.upkeep.book.Known.{Known}
@@ -391,3 +389,20 @@ module _ {S : Type 0} (allows : Layout → History → ℕ → Type 0) (words : 
 -- names are dealt, and then more
 pub deals_more : (allows : Layout → History → ℕ → Type 0) (t : Lasting) (old mid new : OwnSlots) (a b c : ℕ) (u v w : SeatView) → AreSlotsStill old mid → DealsOn (HasDealt allows t old mid a b) u v → DealsOn (HasDealt allows t mid new b c) v w → DealsOn (HasDealt allows t old new a c) u w
 deals_more allows t old mid new a b c u v w still x y = deals_on (HasDealt allows t old mid a b) (HasDealt allows t mid new b c) (HasDealt allows t old new a c) u v w (λ p q r. dealt_on allows t old mid new a b c p q r still.kind) x y
+
+-- Shares
+
+-- what is left of a share of this kind, is what is dealt behind its next name
+pub share_is : (own : OwnSlots) (kind : RecordKind) (left : Remaining) → own.kind ≡ kind → IsShareOf own left → (own.dealt ≡ next_of kind left + left_of kind left) × (left_of kind left ≤ length own.slots.items)
+share_is own kind left e x = subst (λ (k : RecordKind). (own.dealt ≡ next_of k left + left_of k left) × (left_of k left ≤ length own.slots.items)) e (x.dealt, x.few)
+
+pub is_share : (own : OwnSlots) (kind : RecordKind) (left : Remaining) → own.kind ≡ kind → own.dealt ≡ next_of kind left + left_of kind left → left_of kind left ≤ length own.slots.items → IsShareOf own left
+is_share own kind left e dealt few = record {
+  dealt = subst (λ (k : RecordKind). own.dealt ≡ next_of k left + left_of k left) (sym e) dealt;
+  few = subst (λ (k : RecordKind). left_of k left ≤ length own.slots.items) (sym e) few;
+}
+
+-- a share of what is dealt from that name on
+pub shared : (allows : Layout → History → ℕ → Type 0) (t : Lasting) (old new : OwnSlots) (kind : RecordKind) (share result : Remaining) (to : ℕ) (p q : SeatedPass) → old.kind ≡ kind → result ≡ with_left kind share to (new.dealt - to) → HasDealt allows t old new (next_of kind share) to p q → HasLeft allows p share → HasLeft allows q result
+shared allows t old new kind share result to p q e is x has = subst (λ (l : Remaining). HasLeft allows q l) (sym is)
+    (subst (λ (k : RecordKind). HasLeft allows q (with_left k share to (new.dealt - to))) e (x.left share has (ap (λ (k : RecordKind). next_of k share) e)))

@@ -1,15 +1,14 @@
 -- The books of a pass as its table opens.
-use Rattle.std.proofs.Common.{◌≡◌, ◌<◌, ◌≤◌, ◌+◌, ◌*◌, ◌++◌, ◌%◌, ℕ, zero, suc, List, [], ◌∷◌, Some, length, slice_get, inl, inr, refl, sym, ◌∙◌, ap, subst, arith}
+use Rattle.std.proofs.Common.{◌≡◌, ◌<◌, ◌+◌, ◌*◌, ◌++◌, ◌%◌, ℕ, zero, suc, List, [], ◌∷◌, Some, length, slice_get, inl, inr, refl, sym, ◌∙◌, ap, subst, arith}
 use Rattle.histories.specs.Common.{Row, first_node, first_scx}
-use Rattle.resting.specs.Records.{Record, the_node, the_scx}
-use Rattle.slots.specs.Lasting.{IsLasting, IsOwnName, IsOwnRecord, Lasting, slot_of}
+use Rattle.resting.specs.Records.{the_node, the_scx}
+use Rattle.slots.specs.Lasting.{IsLasting, IsOwnRecord, Lasting}
 use Rattle.slots.proofs.Lemmas.{node_lap, scx_lap}
 use Rattle.forest.specs.LastingNotes.{IsAmongThese}
 use Rattle.forest.specs.LastingOpening.{first_memory, nodes_from, scx_from}
 use Rattle.forest.specs.LastingSlots.{slot_number}
-use Rattle.forest.specs.UpkeepBook.{IsBook, IsKnownSo, IsNameIn, IsSlotSo, count_own, dealt_of, first_own, numbered, record_numbered, turn_of}
+use Rattle.forest.specs.UpkeepBook.{IsBook, IsNameIn, IsSlotSo, count_own, dealt_of, first_own, numbered, record_numbered, turn_of}
 use Rattle.forest.specs.declared.memory.PassMemory.{PassMemory}
-use Rattle.forest.specs.declared.memory.RecordNo.{RecordNo}
 use Rattle.forest.specs.declared.upkeep.book.Known.TheVariants.{Used}
 use Rattle.forest.specs.declared.upkeep.book.OwnSlot.{OwnSlot}
 use Rattle.forest.specs.declared.upkeep.book.OwnSlots.{OwnSlots}

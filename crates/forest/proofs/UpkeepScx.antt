@@ -1,5 +1,5 @@
 -- How a pass sees that an SCX-record of its own is dead.
-use Rattle.std.proofs.Common.{◌≡◌, ◌≢◌, ◌<◌, ◌≤◌, ◌+◌, ◌++◌, ℕ, List, [], ◌∷◌, inl, inr, refl, sym, ◌∙◌, ap, subst, arith}
+use Rattle.std.proofs.Common.{◌≡◌, ◌<◌, ◌+◌, ◌++◌, ℕ, List, [], ◌∷◌, inl, inr, refl, sym, ◌∙◌, ap, subst, arith}
 use native.Mathlib.Decide.{ℕ_discrete}
 use Rattle.arena.proofs.Lemmas.{ends_self, scx_word_apart}
 use Rattle.arena.specs.ScxRecords.{count, count_of}
@@ -8,7 +8,6 @@ use Rattle.histories.specs.Common.{AllFrozen, History, IsOwnScx, IsRun, Lawful, 
 use Rattle.planting.specs.Plantings.{PlantingView}
 use Rattle.slots.specs.Lasting.{Lasting}
 use Rattle.forest.specs.LastingNotes.{IsAmongThese, noted_as}
-use Rattle.forest.specs.LastingRule.{HasLearnt, LearnsWith, LoadsWord}
 use Rattle.forest.specs.TableRule.{ByOthers, history_of, past_of, seated_pass}
 use Rattle.forest.specs.UpkeepBook.{IsNameIn, KeepsOthers, KnowsNow, memory_with_note, numbered, record_numbered}
 use Rattle.forest.specs.UpkeepDeals.{HasLeft}

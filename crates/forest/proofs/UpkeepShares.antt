@@ -1,9 +1,9 @@
 -- What is left of a share once its pass has passed over names.
-use Rattle.std.proofs.Common.{◌≡◌, ◌≢◌, ◌<◌, ◌≤◌, ◌+◌, ◌⊎◌, ◌++◌, ℕ, zero, suc, List, [], ◌∷◌, inl, inr, ⊎_elim, refl, sym, ◌∙◌, ap, subst, arith}
+use Rattle.std.proofs.Common.{◌≡◌, ◌<◌, ◌≤◌, ◌+◌, ◌⊎◌, ℕ, zero, suc, List, ◌∷◌, inl, inr, ⊎_elim, refl, sym, ap, subst, arith}
 use native.Mathlib.Decide.{dec_lt}
 use Rattle.arena.proofs.Lemmas.{fill_takes_node, fill_takes_scx, taken_node_more, taken_scx_more}
 use Rattle.arena.specs.declared.word.ScxWord.TheVariants.{Plan}
-use Rattle.histories.specs.Common.{Abort, Fill, Head, History, IsOwnNode, IsOwnScx, IsTakenNode, IsTakenScx, IsUnmentioned, Layout, Lawful, Remaining, Row, Seen, Settled, State, first_node, first_scx, node, scx, state, ◌⊳◌}
+use Rattle.histories.specs.Common.{Abort, Fill, Head, History, IsOwnNode, IsOwnScx, IsTakenNode, IsTakenScx, Layout, Lawful, Remaining, Row, Seen, Settled, first_node, first_scx, node, scx, state, ◌⊳◌}
 use Rattle.histories.proofs.Lemmas.{lawful_tail, unmentioned_by_fill, unmentioned_by_step, untaken_by_node}
 use Rattle.planting.specs.Plantings.{PlantingView}
 use Rattle.prims.specs.Moments.{AreFinished}

@@ -1,10 +1,9 @@
 -- How free slots get names, and names that are left are given back.
-use Rattle.std.specs.Prelude.{◌≡◌, ◌≢◌, ◌+◌, ◌-◌, ◌<◌, ◌≤◌, ◌⊎◌, ◌++◌, ◌%◌, ℕ, false, List, [], ◌∷◌, Option, Some, length, slice_get}
+use Rattle.std.specs.Prelude.{◌≡◌, ◌≢◌, ◌+◌, ◌-◌, ◌<◌, ◌≤◌, ◌⊎◌, ◌++◌, ◌%◌, ℕ, false, List, [], ◌∷◌, Some, length, slice_get}
 use Rattle.histories.specs.Common.{Abort, Fill, History, IsRun, Layout, Remaining, Row}
 use Rattle.planting.specs.Plantings.{PlantingView}
 use Rattle.prims.specs.Moments.{AreFinished}
 use Rattle.prims.specs.Shares.{IsShare}
-use Rattle.resting.specs.Records.{Record}
 use Rattle.slots.specs.Lasting.{IsOwnName, Lasting}
 use Rattle.forest.specs.LastingMemory.{record_at}
 use Rattle.forest.specs.LastingNames.{memory_with_node, memory_with_scx, node_ahead, past_nodes, past_scxs, scx_ahead}
@@ -12,7 +11,7 @@ use Rattle.forest.specs.LastingRule.{GoesOnWith}
 use Rattle.forest.specs.LastingSlots.{slot_number}
 use Rattle.forest.specs.Passes.{Each}
 use Rattle.forest.specs.TableRule.{past_of}
-use Rattle.forest.specs.UpkeepBook.{AreSameSlots, IsBook, IsCleanSlot, SparesOthers, dealt_of, numbered}
+use Rattle.forest.specs.UpkeepBook.{IsBook, IsCleanSlot, dealt_of, numbered}
 use Rattle.forest.specs.declared.memory.PassMemory.{PassMemory}
 use Rattle.forest.specs.declared.memory.RecordNo.{RecordNo}
 use Rattle.forest.specs.declared.upkeep.book.Known.TheVariants.{Free, Used}
@@ -142,3 +141,9 @@ pub record HasDealt (allows : Layout → History → ℕ → Type 0) (t : Lastin
   pub book : (since : List Row) → IsBook t p since old → IsBook t q since new
   pub others : (other : OwnSlots) (since : List Row) → other.kind ≢ old.kind → IsBook t p since other → IsBook t q since other
   pub left : (left : Remaining) → HasLeft allows p left → next_of old.kind left ≡ from → HasLeft allows q (with_left old.kind left to (new.dealt - to))
+
+-- of this kind the share has left what is dealt behind its next name, and no more than there are
+-- slots
+pub record IsShareOf (own : OwnSlots) (left : Remaining) : Type 0 where
+  pub dealt : own.dealt ≡ next_of own.kind left + left_of own.kind left
+  pub few : left_of own.kind left ≤ length own.slots.items

@@ -1,6 +1,6 @@
 -- What a pass keeps from one call to the next so that its records come back, and what it is to be
 -- right.
-use Rattle.std.specs.Prelude.{◌≡◌, ◌<◌, ◌+◌, ◌⊎◌, ◌*◌, ℕ, false, List, [], Option, Some, None, length, slice_get}
+use Rattle.std.specs.Prelude.{◌≡◌, ◌<◌, ◌⊎◌, ℕ, false, List, [], Option, Some, None}
 use Rattle.histories.specs.Common.{Layout, Remaining, Row, History, Extends}
 use Rattle.prims.specs.Moments.{AreFinished}
 use Rattle.prims.specs.Shares.{IsShare}
@@ -11,11 +11,7 @@ use Rattle.forest.specs.Shares.{EndsAsDealt}
 use Rattle.forest.specs.UpkeepDeals.{HasLeft}
 use Rattle.forest.specs.UpkeepPeriod.{HasPeriod, IsFirstWaited, WaitsForNobody}
 use Rattle.forest.specs.declared.memory.PassMemory.{PassMemory}
-use Rattle.forest.specs.declared.upkeep.book.Known.TheVariants.{Used}
-use Rattle.forest.specs.declared.upkeep.book.OwnSlot.{OwnSlot}
-use Rattle.forest.specs.declared.upkeep.book.OwnSlots.{OwnSlots}
 use Rattle.forest.specs.declared.upkeep.keeper.Keeper.{Keeper}
-use Rattle.forest.specs.declared.upkeep.kind.RecordKind.{RecordKind}
 use Rattle.forest.specs.declared.upkeep.kind.RecordKind.TheVariants.{Node, Scx}
 use Rattle.forest.specs.declared.upkeep.period.Period.{Period}
 use Rattle.forest.specs.declared.view.SeatedPass.{SeatedPass}
@@ -33,8 +29,6 @@ RunsSince count p rows (Some period) = HasPeriod count p rows period
 -- found, or is dying, was so after these rows or before.
 pub record KeepsSlotsSince (t : Lasting) (p : SeatedPass) (rows : List Row) (keeper : Keeper) : Type 0 where
   pub known : Extends (past_of p []) (history_of p.planting rows)
-  -- and it knows what it knew as it rested
-  pub rested : Extends (past_of p []) (history_of p.planting p.memory.rested)
   pub often : keeper.often ≡ p.memory.often
   pub node_kind : keeper.nodes.kind ≡ Node
   pub scx_kind : keeper.scxs.kind ≡ Scx
@@ -92,21 +86,6 @@ AwaitsNobody (Some period) = WaitsForNobody period
 abbrev pub IsAwaited : Option Period → ℕ → Type 0
 IsAwaited None k = ⊥
 IsAwaited (Some period) k = IsFirstWaited period k
-
--- all of these slots are in use, by the names from this one on
-pub record AreFirstUsed (slots : List OwnSlot) (first count : ℕ) : Type 0 where
-  pub all : length slots ≡ count
-  pub used : (i : ℕ) (x : OwnSlot) → slice_get slots i ≡ Some x → x ≡ record { name = first + i; known = Used }
-
--- These are so many slots of a kind from the first on, all in use, by the names from this one on, of
--- which there are so many laps more.
-pub record AreInUse (own : OwnSlots) (kind : RecordKind) (first count name laps turn : ℕ) : Type 0 where
-  pub is_kind : own.kind ≡ kind
-  pub is_first : own.first ≡ first
-  pub is_turn : own.turn ≡ turn
-  pub end : own.end ≡ name + count + laps * turn
-  pub dealt : own.dealt ≡ name + count
-  pub used : AreFirstUsed own.slots.items name count
 
 -- The pass is there and between two calls, and has so much left of its share, which ends where its
 -- dealt names end; and what it keeps is right.

@@ -1,5 +1,5 @@
 -- When a pass sees that an SCX-record of its own is dead.
-use Rattle.std.specs.Prelude.{◌≡◌, ◌<◌, ℕ, List, [], ◌∷◌}
+use Rattle.std.specs.Prelude.{◌≡◌, ◌<◌, ℕ, [], ◌∷◌}
 use Rattle.arena.specs.ScxRecords.{count}
 use Rattle.histories.specs.Common.{History, Layout, ScxWord, scx, value}
 use Rattle.slots.specs.Lasting.{Lasting}

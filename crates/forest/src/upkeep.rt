@@ -19,7 +19,6 @@ pub(crate) mod book;
 pub(crate) mod clean;
 pub(crate) mod deal;
 pub(crate) mod keeper;
-pub(crate) mod kept;
 pub(crate) mod kind;
 pub(crate) mod looks;
 pub(crate) mod names;
@@ -27,6 +26,7 @@ pub(crate) mod open;
 pub(crate) mod part;
 pub(crate) mod period;
 pub(crate) mod scx;
+pub(crate) mod share;
 pub(crate) mod turn;
 
 /// How often a pass rests at most, so that twice as much fits a word: many more times than any

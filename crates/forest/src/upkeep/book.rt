@@ -38,6 +38,7 @@ pub(crate) struct OwnSlots {
     pub(crate) dealt: u64,
     pub(crate) slots: Vec<OwnSlot>,
     ghost fits: { first + vec_len slots ≤ 2 ^ 33 },
+    ghost few: { vec_len slots < 2 ^ 32 },
     ghost turns: { (0 < turn) × (turn ≤ 2 ^ 61) },
     ghost ends: { (dealt ≤ end) × (end ≤ 2 ^ 61) },
 }

@@ -1,11 +1,10 @@
 //! What a pass keeps from one call to the next so that its records come back, and what it does as
 //! it rests.
-ghost use Rattle.std.specs.Prelude.{◌≡◌, ◌+◌, ◌<◌, ◌≤◌, ◌^◌, ◌*◌, ℕ, false, List, [], IfOk, MatchOption, length, slice_get};
+ghost use Rattle.std.specs.Prelude.{◌≡◌, ◌+◌, ◌<◌, ◌≤◌, ◌^◌, List, [], IfOk, MatchOption, length};
 ghost use Rattle.arena.specs.declared.step.Row.{Row};
-ghost use Rattle.histories.specs.Common.{first_node, first_scx};
 ghost use Rattle.slots.specs.Lasting.{IsLasting};
 ghost use Rattle.forest.specs.LastingOpening.{first_memory};
-ghost use Rattle.forest.specs.Seats.{IsSameSeat};
+ghost use Rattle.forest.specs.Seats.{StaysAtTable};
 ghost use Rattle.forest.specs.Slotted.{in_turns};
 ghost use Rattle.arena.specs.Machines.{IsRun};
 ghost use Rattle.arena.specs.Share.{Remaining};
@@ -13,14 +12,15 @@ ghost use Rattle.forest.specs.Shares.{EndsAsDealt};
 ghost use Rattle.forest.specs.TableRule.{past_of};
 ghost use Rattle.forest.specs.UpkeepBook.{HasEnded, IsAtLasting, IsBook, slots_in};
 ghost use Rattle.forest.specs.UpkeepDeals.{AreSlotsStill, DealsOn, HasDealt, HasLeft, next_of};
-ghost use Rattle.forest.specs.UpkeepKeeper.{AreFirstUsed, AreInUse, AwaitsNobody, HasTakenRest, HasTurnedSlots, IsAwaited, IsBack, IsBackDuring, IsBetween, IsKeeper, IsSetNow, IsSetToCall};
+ghost use Rattle.forest.specs.UpkeepKeeper.{AwaitsNobody, HasTakenRest, HasTurnedSlots, IsAwaited, IsBack, IsBackDuring, IsBetween, IsKeeper, IsSetNow, IsSetToCall};
 ghost use Rattle.forest.specs.UpkeepSteps.{RestsOn};
 ghost use Rattle.forest.specs.declared.view.SeatedPass.{SeatedPass};
 
 use crate::rule::Turns;
-use crate::upkeep::book::{Known, OwnSlot, OwnSlots};
+use crate::upkeep::book::OwnSlots;
 use crate::upkeep::deal::deal;
 use crate::upkeep::kind::RecordKind;
+use crate::upkeep::open::open_slots;
 use crate::upkeep::period::Period;
 use crate::upkeep::turn::turn_all;
 use crate::upkeep::{MOST_RESTS, rest};
@@ -41,47 +41,25 @@ pub(crate) struct Keeper {
 
 impl Keeper {
     /// What a pass keeps before its first step: all of its slots are in use, by its names of the
-    /// first lap, of which these two are the first.
+    /// first lap.
     pub(crate) fn new(
         alloc: Global,
         layout: &Layout,
-        turns: Turns,
+        turns: &Turns,
         number: PassNo,
-        node: NodeNo,
-        scx: ScxNo,
     ) -> Result<Keeper, NoMemory>
-        requires lasts { IsLasting (in_turns layout.now turns) }
-        requires bits { (turns.node_bits ≤ 29) × (turns.scx_bits ≤ 29) }
         requires pass { number.0 < layout.now.passes }
-        requires first { (node.0 ≡ first_node (in_turns layout.now turns).lay number.0)
-            × (scx.0 ≡ first_scx (in_turns layout.now turns).lay number.0) }
+        requires bits { (turns.now.node_bits ≤ 60) × (turns.now.scx_bits ≤ 60) }
+        requires lasts { IsLasting (in_turns layout.now turns.now) }
         ensures { IfOk result (λ keeper. (p : SeatedPass) → p.number ≡ number
-            → p.memory ≡ first_memory (in_turns layout.now turns) number.0
-            → IsKeeper (in_turns layout.now turns) p keeper) }
+            → p.memory ≡ first_memory (in_turns layout.now turns.now) number.0
+            → IsKeeper (in_turns layout.now turns.now) p keeper) }
     {
-        let nodes = OwnSlots::in_use(
-            alloc,
-            RecordKind::Node,
-            layout.first_node(number),
-            layout.nodes,
-            node.0,
-            turns.laps,
-            turn_by(turns.node_bits),
-        )?;
-        let scxs = OwnSlots::in_use(
-            alloc,
-            RecordKind::Scx,
-            layout.first_scx(number),
-            layout.scx,
-            scx.0,
-            turns.laps,
-            turn_by(turns.scx_bits),
-        )?;
         Ok(Keeper {
             often: 0,
             period: None,
-            nodes,
-            scxs,
+            nodes: open_slots(alloc, RecordKind::Node, layout, turns, number)?,
+            scxs: open_slots(alloc, RecordKind::Scx, layout, turns, number)?,
         })
     }
 
@@ -104,7 +82,7 @@ impl Keeper {
             × (p.number ≡ number) × IsRun S.allows p.layout (past_of p [])
             × IsBetween p left.old × EndsAsDealt left.old p.memory
             × IsKeeper (slots_in words.now) p self.old }
-        ensures table { IsSameSeat seat.old seat.new }
+        ensures table { StaysAtTable seat.old seat.new }
         ensures rests { DealsOn (IsSetNow S.allows (slots_in words.now) left.new self.new)
             seat.old.me.0 seat.new.me.0 }
     {
@@ -125,7 +103,7 @@ impl Keeper {
         requires { (p : SeatedPass) × IsAtLasting words.now layout.now seat.old p
             × (p.number ≡ number) × IsRun S.allows p.layout (past_of p [])
             × IsBetween p left.now × IsKeeper (slots_in words.now) p self.old }
-        ensures table { IsSameSeat seat.old seat.new }
+        ensures table { StaysAtTable seat.old seat.new }
         ensures rests { RestsOn S.allows (HasTakenRest (slots_in words.now) self.new)
             seat.old.me.0 seat.new.me.0 }
     {
@@ -153,7 +131,7 @@ impl Keeper {
         requires { (p : SeatedPass) × (since : List Row)
             × IsAtLasting words.now layout.now seat.old p × (p.number ≡ number)
             × IsBackDuring (slots_in words.now) p since period self.old × HasLeft S.allows p left.now }
-        ensures table { IsSameSeat seat.old seat.new }
+        ensures table { StaysAtTable seat.old seat.new }
         ensures rests { RestsOn S.allows (HasTakenRest (slots_in words.now) self.new)
             seat.old.me.0 seat.new.me.0 }
     {
@@ -177,7 +155,7 @@ impl Keeper {
             × IsAtLasting words.now layout.now seat.old p
             × IsBack (slots_in words.now) p since self.old
             × HasEnded (slots_in words.now) p since × HasLeft S.allows p left.now }
-        ensures table { IsSameSeat seat.old seat.new }
+        ensures table { StaysAtTable seat.old seat.new }
         ensures turned { RestsOn S.allows (HasTurnedSlots (slots_in words.now) self.new)
             seat.old.me.0 seat.new.me.0 }
     {
@@ -198,7 +176,7 @@ impl Keeper {
         requires { (p : SeatedPass) × (since : List Row)
             × IsAtLasting words.now layout.now seat.old p × (p.number ≡ number)
             × IsBack (slots_in words.now) p since self.old }
-        ensures table { IsSameSeat seat.old seat.new }
+        ensures table { StaysAtTable seat.old seat.new }
         ensures rests { RestsOn S.allows (HasTakenRest (slots_in words.now) self.new)
             seat.old.me.0 seat.new.me.0 }
     {
@@ -215,7 +193,7 @@ impl Keeper {
     )
         requires { (p : SeatedPass) × IsAtLasting words.now layout.now seat.old p
             × IsSetToCall S.allows (slots_in words.now) p left.old self.old }
-        ensures table { IsSameSeat seat.old seat.new }
+        ensures table { StaysAtTable seat.old seat.new }
         ensures set { DealsOn (IsSetNow S.allows (slots_in words.now) left.new self.new)
             seat.old.me.0 seat.new.me.0 }
     {
@@ -255,12 +233,12 @@ fn next_name<S: Shape>(
     left: u32,
     least: u32,
 ) -> u64
-    requires left { (own.old.dealt ≡ next + left) × (own.old.dealt ≤ own.old.end) }
-    requires slots { (least ≤ length own.old.slots.items) × (length own.old.slots.items < 2 ^ 32) }
+    requires left { own.old.dealt ≡ next + left }
+    requires slots { least ≤ length own.old.slots.items }
     requires pass { (p : SeatedPass) × (left : Remaining) × (since : List Row)
         × IsAtLasting words.now layout.now seat.old p × HasLeft S.allows p left
         × (next_of own.old.kind left ≡ next) × IsBook (slots_in words.now) p since own.old }
-    ensures table { IsSameSeat seat.old seat.new }
+    ensures table { StaysAtTable seat.old seat.new }
     ensures still { AreSlotsStill own.old own.new }
     ensures few { (result ≤ own.new.dealt) × (own.new.dealt < result + 2 ^ 32) }
     ensures given { DealsOn (HasDealt S.allows (slots_in words.now) own.old own.new next result)
@@ -271,55 +249,4 @@ fn next_name<S: Shape>(
     } else {
         next
     }
-}
-
-impl OwnSlots {
-    /// So many slots from the first on, all in use, by the names from this one on, of which there
-    /// are so many laps more.
-    fn in_use(
-        alloc: Global,
-        kind: RecordKind,
-        first: u32,
-        count: u32,
-        name: u64,
-        laps: u64,
-        turn: u64,
-    ) -> Result<OwnSlots, NoMemory>
-        requires names { name + count + laps * turn ≤ 2 ^ 61 }
-        requires turn { (0 < turn) × (turn ≤ 2 ^ 61) }
-        ensures { IfOk result (λ own. AreInUse own kind first count name laps turn) }
-    {
-        Ok(OwnSlots {
-            kind,
-            first: u64::from(first),
-            turn,
-            end: name + u64::from(count) + laps * turn,
-            dealt: name + u64::from(count),
-            slots: first_used(alloc, count, name)?,
-        })
-    }
-}
-
-/// How many names on by so many bits one has the same slot.
-fn turn_by(bits: u32) -> u64
-    requires { bits ≤ 29 }
-    ensures is { result ≡ 2 ^ bits }
-    ensures few { (0 < result) × (result ≤ 2 ^ 61) }
-{
-    1 << bits
-}
-
-/// So many slots, all in use, by the names from this one on.
-fn first_used(alloc: Global, count: u32, first: u64) -> Result<Vec<OwnSlot>, NoMemory>
-    requires { first + count < 2 ^ 64 }
-    ensures { IfOk result (λ slots. AreFirstUsed slots.items first count) }
-{
-    let mut slots = Vec::with_capacity(alloc, count as usize)?;
-    for i in 0..count {
-        slots.push(OwnSlot {
-            name: first + u64::from(i),
-            known: Known::Used,
-        })?;
-    }
-    Ok(slots)
 }

@@ -1,4 +1,4 @@
-use Rattle.std.proofs.Common.{◌≡◌, ◌<◌, ◌≤◌, ◌+◌, ℕ, refl, sym, ◌∙◌, subst, arith}
+use Rattle.std.proofs.Common.{◌≡◌, ◌∙◌, subst, arith}
 use Rattle.forest.specs.UpkeepBook.{slots_in}
 use Rattle.forest.specs.UpkeepDeals.{DealsOn, HasDealt}
 use Rattle.forest.proofs.UpkeepDealt.{deals_more, pass_now}

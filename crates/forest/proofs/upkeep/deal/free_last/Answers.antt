@@ -1,8 +1,8 @@
-use Rattle.std.proofs.Common.{◌≡◌, ◌<◌, ◌≤◌, ◌+◌, [], ◌∷◌, refl, sym, ◌∙◌, ap, subst, arith}
+use Rattle.std.proofs.Common.{◌<◌, ◌+◌, refl, arith}
 use Rattle.forest.specs.LastingSlots.{memory_given_back}
 use Rattle.forest.specs.UpkeepBook.{HasFreed, Remembers, numbered, slots_in}
 use Rattle.forest.proofs.UpkeepDealt.{empty_then, given_back, is_left, last_dealt, name_there, within}
-use Rattle.forest.proofs.UpkeepLooks.{at_now, is_word_of, own_now, table_in}
+use Rattle.forest.proofs.UpkeepLooks.{at_now, is_word_of, table_in}
 use Rattle.forest.proofs.UpkeepSteps.{rests_on}
 use Rattle.forest.proofs.UpkeepTurn.{from_pass}
 use Rattle.forest.proofs.UpkeepTurns.{own_slot}

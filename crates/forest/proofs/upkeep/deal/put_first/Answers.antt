@@ -1,6 +1,6 @@
-use Rattle.std.proofs.Common.{◌≡◌, ◌≤◌, ◌+◌, ◌-◌, [], ◌∷◌, refl, sym, ◌∙◌, ap, subst, arith}
+use Rattle.std.proofs.Common.{◌+◌, refl, sym, ◌∙◌, subst, arith}
 use Rattle.std.proofs.Math.Nat.{le_of_eq}
-use Rattle.forest.specs.UpkeepBook.{dealt_of, slots_in}
+use Rattle.forest.specs.UpkeepBook.{slots_in}
 use Rattle.forest.specs.UpkeepDeals.{HasDealt, HasLeft, HasPassedTo, with_left}
 use Rattle.forest.proofs.UpkeepDealt.{book_then, keeps, may_get, others, within}
 use Rattle.forest.proofs.UpkeepDeals.{deals_as}

@@ -1,4 +1,4 @@
-use Rattle.std.proofs.Common.{◌≡◌, ◌<◌, ◌≤◌, ◌+◌, ◌-◌, length, refl, sym, ◌∙◌, subst, arith}
+use Rattle.std.proofs.Common.{refl, ◌∙◌, arith}
 use Rattle.forest.specs.UpkeepBook.{slots_in}
 use Rattle.forest.specs.UpkeepDeals.{HasDealt}
 use Rattle.forest.proofs.UpkeepDealt.{dealt_not, pass_now, seat_dealt, still_on, still_same}

@@ -1,7 +1,6 @@
-use Rattle.std.proofs.Common.{◌≡◌, ◌≤◌, ◌+◌, ◌-◌, [], ◌∷◌, set, refl, sym, ◌∙◌, ap, subst, arith}
+use Rattle.std.proofs.Common.{◌≤◌, ◌+◌, refl, arith}
 use Rattle.forest.specs.UpkeepBook.{Remembers, dealt_of, numbered, slots_in}
-use Rattle.forest.specs.UpkeepDeals.{HasDealt, HasLeft, memory_given, next_of, with_left}
-use Rattle.forest.specs.declared.upkeep.book.Known.TheVariants.{Used}
+use Rattle.forest.specs.UpkeepDeals.{HasDealt, memory_given, next_of}
 use Rattle.forest.proofs.UpkeepDealt.{may_get, next_dealt, within}
 use Rattle.forest.proofs.UpkeepLooks.{is_word_of, table_in}
 use Rattle.forest.proofs.UpkeepTurn.{known_as}

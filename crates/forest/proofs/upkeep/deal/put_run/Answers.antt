@@ -1,7 +1,7 @@
-use Rattle.std.proofs.Common.{◌≡◌, ◌<◌, ◌≤◌, ◌+◌, length, refl, sym, ◌∙◌, subst, arith}
+use Rattle.std.proofs.Common.{arith}
 use Rattle.forest.specs.UpkeepBook.{slots_in}
 use Rattle.forest.specs.UpkeepDeals.{HasDealt}
-use Rattle.forest.proofs.UpkeepDealt.{deals_more, dealt_not, pass_dealt, still_on, still_same, within}
+use Rattle.forest.proofs.UpkeepDealt.{deals_more, dealt_not, pass_dealt, still_same, within}
 use Rattle.forest.proofs.UpkeepDeals.{rests_deal}
 use Rattle.forest.proofs.UpkeepSteps.{seat_still}
 use Rattle.forest.proofs.upkeep.deal.put_run.Goals as goal

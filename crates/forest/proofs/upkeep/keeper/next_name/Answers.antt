@@ -12,7 +12,7 @@ returns-else-left-least-clause-given g c =
     let t = slots_in c.args.words.now in
     let own = c.args.own.now in
     let next = c.args.next in
-    let left = c.requires.left in
+    let dealt = c.requires.left in
     rests_deal g.S.Shape.allows (HasDealt g.S.Shape.allows t own own next next) c.args.seat.now.me.0 c.args.seat.now.me.0
     (seat_still g.S.Shape.allows (HasDealt g.S.Shape.allows t own own next next) r.0 c.args.seat.now.me.0 r.3.alone
-    (dealt_not g.S.Shape.allows t own next r.0 r.2 r.6 r.3.names (let dealt = left.0 in omega (arith, dealt)) left.1))
+    (dealt_not g.S.Shape.allows t own next r.0 r.2 r.6 r.3.names (omega (arith, dealt)) own.ends.0))

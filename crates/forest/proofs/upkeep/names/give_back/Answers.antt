@@ -1,4 +1,4 @@
-use Rattle.std.proofs.Common.{◌≡◌, refl}
+use Rattle.std.proofs.Common.{refl}
 use Rattle.forest.specs.LastingSlots.{memory_given_back}
 use Rattle.forest.specs.UpkeepBook.{numbered, slots_in}
 use Rattle.forest.proofs.UpkeepLooks.{has_learnt, inside, may_learn, passes_in}

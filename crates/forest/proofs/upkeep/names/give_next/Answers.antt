@@ -1,6 +1,6 @@
-use Rattle.std.proofs.Common.{◌≡◌, ◌≤◌, ◌+◌, ◌<◌, ℕ, List, [], ◌∷◌, refl, subst, arith}
-use Rattle.atomic_table.specs.Table.{Allows, Me}
-use Rattle.histories.specs.Common.{History, Layout, Remaining, Row}
+use Rattle.std.proofs.Common.{◌≡◌, ◌≤◌, refl, arith}
+use Rattle.atomic_table.specs.Table.{Allows}
+use Rattle.histories.specs.Common.{Remaining}
 use Rattle.forest.specs.LastingMemory.{record_at}
 use Rattle.forest.specs.LastingNames.{MayGiveName}
 use Rattle.forest.specs.LastingRule.{LearnsWith, TableLasts}

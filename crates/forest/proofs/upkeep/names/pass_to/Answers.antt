@@ -1,4 +1,4 @@
-use Rattle.std.proofs.Common.{◌≡◌, ℕ, [], ◌∷◌, refl}
+use Rattle.std.proofs.Common.{◌≡◌, refl}
 use Rattle.atomic_table.specs.Table.{Allows}
 use Rattle.forest.specs.LastingNames.{MayGiveName}
 use Rattle.forest.specs.LastingRule.{GoesOnWith, TableLasts}

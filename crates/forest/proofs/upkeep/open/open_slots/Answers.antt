@@ -1,4 +1,4 @@
-use Rattle.std.proofs.Common.{◌≡◌, ◌<◌, ◌+◌, ℕ, refl, sym, ◌∙◌, ap, subst, arith}
+use Rattle.std.proofs.Common.{◌≡◌, ◌<◌, ◌+◌, sym, ◌∙◌, ap, subst, arith}
 use Rattle.arena.specs.declared.number.PassNo.{PassNo}
 use Rattle.forest.specs.LastingOpening.{first_memory}
 use Rattle.forest.specs.Slotted.{in_turns}

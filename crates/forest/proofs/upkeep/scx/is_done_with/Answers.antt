@@ -1,6 +1,5 @@
-use Rattle.std.proofs.Common.{◌≡◌, ◌<◌, ◌%◌, Bool, false, if◌then◌else◌, [], ◌∷◌, refl, sym, ◌∙◌, ap, subst, arith}
+use Rattle.std.proofs.Common.{◌%◌, if◌then◌else◌, sym, ◌∙◌, ap}
 use Rattle.histories.specs.Common.{Info, Layout, Member, node, place}
-use Rattle.slots.specs.Lasting.{IsOwnRecord}
 use Rattle.forest.specs.UpkeepBook.{Remembers, memory_with_note, numbered, record_numbered, slots_in}
 use Rattle.forest.specs.UpkeepScx.{HasLoaded}
 use Rattle.forest.specs.declared.memory.NoteView.TheVariants.{DoneWith}

@@ -1,16 +1,13 @@
-use Rattle.std.proofs.Common.{◌≡◌, ◌<◌, ◌+◌, ℕ, Bool, true, false, if◌then◌else◌, [], ◌∷◌, refl, sym, ◌∙◌, ap, subst, arith}
-use Rattle.arena.specs.ScxRecords.{count}
+use Rattle.std.proofs.Common.{◌≡◌, ◌<◌, Bool, if◌then◌else◌, sym, ◌∙◌, ap, subst, arith}
 use Rattle.arena.specs.declared.word.ScxWord.TheVariants.{Plan}
 use Rattle.histories.specs.Common.{IsOwnScx, Layout}
 use Rattle.histories.proofs.Lemmas.{own_scx_inside}
 use Rattle.arena.specs.declared.number.PassNo.{PassNo}
 use Rattle.forest.specs.declared.memory.PassMemory.{PassMemory}
-use Rattle.forest.specs.TableRule.{past_of}
-use Rattle.forest.specs.UpkeepBook.{KnowsNow, Remembers, memory_with_note, numbered, record_numbered, slots_in}
-use Rattle.forest.specs.UpkeepScx.{HasLoaded, IsDoneNoted, IsDoneTo}
+use Rattle.forest.specs.UpkeepBook.{Remembers, memory_with_note, numbered, record_numbered, slots_in}
+use Rattle.forest.specs.UpkeepScx.{HasLoaded, IsDoneTo}
 use Rattle.forest.specs.UpkeepSteps.{RestsOn}
 use Rattle.forest.specs.declared.memory.NoteView.TheVariants.{DoneWith, MarkedOrDead}
-use Rattle.forest.specs.declared.upkeep.book.Known.TheVariants.{Found, Used}
 use Rattle.forest.specs.declared.upkeep.kind.RecordKind.TheVariants.{Scx}
 use Rattle.forest.proofs.UpkeepDeals.{left_on}
 use Rattle.forest.proofs.UpkeepLooks.{at_now, own_now}

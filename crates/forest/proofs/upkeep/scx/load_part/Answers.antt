@@ -1,4 +1,4 @@
-use Rattle.std.proofs.Common.{◌≡◌, ◌<◌, [], ◌∷◌, refl, sym, ◌∙◌, ap, subst}
+use Rattle.std.proofs.Common.{refl, sym, ◌∙◌}
 use Rattle.histories.specs.Common.{scx}
 use Rattle.histories.proofs.Lemmas.{own_scx_inside}
 use Rattle.forest.specs.UpkeepBook.{numbered, slots_in}

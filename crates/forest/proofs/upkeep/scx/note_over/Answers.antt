@@ -1,4 +1,4 @@
-use Rattle.std.proofs.Common.{◌≡◌, refl}
+use Rattle.std.proofs.Common.{refl}
 use Rattle.forest.specs.LastingNotes.{memory_over}
 use Rattle.forest.specs.UpkeepBook.{slots_in}
 use Rattle.forest.proofs.UpkeepLooks.{has_learnt, inside, may_learn}

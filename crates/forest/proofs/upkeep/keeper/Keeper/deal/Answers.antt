@@ -6,7 +6,7 @@ use Rattle.forest.specs.declared.upkeep.kind.RecordKind.{RecordKind}
 use Rattle.forest.specs.declared.upkeep.kind.RecordKind.TheVariants.{Node, Scx}
 use Rattle.forest.proofs.UpkeepDeals.{deals_as}
 use Rattle.forest.proofs.UpkeepLooks.{table_in}
-use Rattle.forest.proofs.UpkeepSet.{Sets, at_dealing, from_dealing, left_inside, left_is, own_count, set_nodes, set_scxs, sets_on}
+use Rattle.forest.proofs.UpkeepSet.{Sets, at_dealing, from_dealing, left_is, own_count, set_nodes, set_scxs, sets_on}
 use Rattle.forest.proofs.upkeep.keeper.Keeper.deal.Goals as goal
 
 pub next_name-node-requires-clause-pass : goal.next_name-node-requires-clause-pass
@@ -24,7 +24,7 @@ next_name-node-requires-clause-left g c =
     let all = left_is t r.0 kept.since own Node c.args.left.now kept.slots.node_kind kept.slots.nodes r.2.ends in
     let next = c.next.ensures.0 in
     let left : c.left-nodes.result.0 ≡ c.args.left.now.nodes = ap (λ (x : ℕ × ℕ). x.0) c.left-nodes.ensures in
-    (omega (arith, all, next, left), left_inside g.S.Shape.allows t r.0 kept.since own Node c.args.left.now kept.slots.node_kind r.1.names kept.slots.nodes r.2.has r.2.ends)
+    omega (arith, all, next, left)
 
 pub next_name-node-requires-clause-slots : goal.next_name-node-requires-clause-slots
 next_name-node-requires-clause-slots g c =
@@ -33,7 +33,7 @@ next_name-node-requires-clause-slots g c =
     let kept = r.2.kept in
     let count = own_count t c.args.layout.now r.0 kept.since c.args.self.now.nodes Node kept.slots.node_kind kept.slots.nodes (table_in c.args.words.now c.args.layout.now c.args.seat.now r.0 r.1) in
     let few = c.min-few.ensures in
-    (omega (arith, count, few), omega (arith, count))
+    omega (arith, count, few)
 
 pub next_name-scx-requires-clause-pass : goal.next_name-scx-requires-clause-pass
 next_name-scx-requires-clause-pass g c =
@@ -68,7 +68,7 @@ next_name-scx-requires-clause-left g c =
     let all = left_is t r.0 kept.since own Scx c.args.left.now kept.slots.scx_kind kept.slots.scxs r.2.ends in
     let next = c.next.ensures.1 in
     let left : c.left-nodes.result.1 ≡ c.args.left.now.scx = ap (λ (x : ℕ × ℕ). x.1) c.left-nodes.ensures in
-    (omega (arith, all, next, left), left_inside g.S.Shape.allows t r.0 kept.since own Scx c.args.left.now kept.slots.scx_kind r.1.names kept.slots.scxs r.2.has r.2.ends)
+    omega (arith, all, next, left)
 
 pub next_name-scx-requires-clause-slots : goal.next_name-scx-requires-clause-slots
 next_name-scx-requires-clause-slots g c =
@@ -77,7 +77,7 @@ next_name-scx-requires-clause-slots g c =
     let kept = r.2.kept in
     let count = own_count t c.args.layout.now r.0 kept.since c.args.self.now.scxs Scx kept.slots.scx_kind kept.slots.scxs (table_in c.args.words.now c.args.layout.now c.args.seat.now r.0 r.1) in
     let few = c.min-one.ensures in
-    (omega (arith, count, few), omega (arith, count))
+    omega (arith, count, few)
 
 pub returns-clause-set : goal.returns-clause-set
 returns-clause-set g c =
