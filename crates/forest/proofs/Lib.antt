@@ -78,6 +78,3 @@ mod Rested
 mod UpkeepScx
 mod UpkeepSet
 mod UpkeepOpening
-mod UpkeepKeeper
-mod UpkeepFirst
-mod UpkeepSet

@@ -13,7 +13,7 @@ use Rattle.forest.specs.LastingNotes.{IsAmongThese}
 use Rattle.forest.specs.LastingSlots.{IsLastDealt, IsNotBefore, memory_given_back, slot_number}
 use Rattle.forest.specs.TableRule.{history_of, past_of}
 use Rattle.forest.specs.UpkeepBook.{AreAllOwn, HasFreed, IsAtLasting, IsBook, IsKnownSo, IsNameIn, IsOfKind, IsSlotSo, KeepsRests, SparesOthers, count_own, dealt_of, first_own, numbered, record_numbered, slots_in, turn_of}
-use Rattle.forest.specs.Seats.{StaysAtTable}
+use Rattle.forest.specs.Seats.{IsSameSeat}
 use Rattle.forest.specs.UpkeepSteps.{HasGoneOnResting, RestsOn}
 use Rattle.forest.specs.UpkeepDeals.{AreSlotsStill, DealsOn, HasDealt, HasGoneOnDealing, HasLeft, HasNameFor, IsFreeAt, IsNameAt, IsShareOf, KeepsPolls, MayGet, ahead, left_of, memory_given, next_of, with_left}
 use Rattle.forest.specs.declared.memory.PassMemory.{PassMemory}

@@ -23,6 +23,7 @@ keeper_first t o p memory keeper often period node_kind scx_kind nodes scxs = re
   since = [];
   slots = record {
     known = ends_at_start p.planting p.known;
+    rested = subst (λ (m : PassMemory). Extends (past_of p []) (history_of p.planting m.rested)) (sym memory) (ends_at_start p.planting p.known);
     often = often ∙ ap (λ (m : PassMemory). m.often) (sym memory);
     node_kind = node_kind;
     scx_kind = scx_kind;

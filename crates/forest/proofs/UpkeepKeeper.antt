@@ -54,9 +54,10 @@ module _ (t : Lasting) (p q : SeatedPass) (number : q.number ≡ p.number) (plan
   }
 
   -- and so is what it keeps
-  pub slots_on : (rows later : List Row) (old new : Keeper) → Extends (history_of p.planting later) (history_of p.planting rows) → Extends (past_of q []) (history_of q.planting later) → new.often ≡ q.memory.often → new.nodes ≡ old.nodes → new.scxs ≡ old.scxs → KeepsSlotsSince t p rows old → KeepsSlotsSince t q later new
-  slots_on rows later old new on known often nodes scxs x = record {
+  pub slots_on : (rows later : List Row) (old new : Keeper) → Extends (history_of p.planting later) (history_of p.planting rows) → Extends (past_of q []) (history_of q.planting later) → Extends (past_of q []) (history_of q.planting q.memory.rested) → new.often ≡ q.memory.often → new.nodes ≡ old.nodes → new.scxs ≡ old.scxs → KeepsSlotsSince t p rows old → KeepsSlotsSince t q later new
+  slots_on rows later old new on known rested often nodes scxs x = record {
     known = known;
+    rested = rested;
     often = often;
     node_kind = ap (λ (o : OwnSlots). o.kind) nodes ∙ x.node_kind;
     scx_kind = ap (λ (o : OwnSlots). o.kind) scxs ∙ x.scx_kind;
@@ -83,6 +84,7 @@ keeper_stays t p q number layout planting memory more keeper x =
           (same (λ m. SparesOthers t (λ r. ⊥) p.memory m) (spares_equal t p.memory p.memory refl refl refl refl))
           (same (λ m. DealsNoMore p.memory m) record { nodes_to = refl; scx_to = refl })
           x.since x.since keeper keeper (ends_self (history_of p.planting x.since)) (ends_trans _ _ _ now since)
+          (same (λ m. Extends (past_of q []) (history_of q.planting m.rested)) (ends_trans _ _ _ now (subst (λ (l : PlantingView). Extends (history_of l p.known) (history_of l p.memory.rested)) (sym planting) x.slots.rested)))
           (x.slots.often ∙ ap (λ (m : PassMemory). m.often) (sym memory)) refl refl x.slots;
       period = runs_on p q number planting now (ap (λ (m : PassMemory). m.polls) memory) t.table.passes x.since keeper.period x.period;
     }
@@ -130,6 +132,7 @@ module _ (allows : Layout → History → ℕ → Type 0) (t : Lasting) (p q : S
     pub back_now : (rows : List Row) → KeepsSlotsSince t p rows old → IsBack t q rows new
     back_now rows x = record {
       slots = slots_on t p q goes.number goes.planting (subst (λ (m : PassMemory). SparesOthers t (λ r. ⊥) p.memory m) (sym is) (spares_equal t p.memory (memory_rested p.memory q.known) refl refl refl refl)) (rest_deals p q is) rows rows old new (ends_self (history_of p.planting rows)) (still_known rows x.known)
+          (subst (λ (m : PassMemory). Extends (past_of q []) (history_of q.planting m.rested)) (sym is) (ends_self (past_of q [])))
           (let was = x.often in let now : q.memory.often ≡ suc p.memory.often = ap (λ (m : PassMemory). m.often) is in omega (arith, often, was, now)) nodes scxs x;
       there = ap (λ (m : PassMemory). m.away) is;
     }
@@ -141,6 +144,7 @@ module _ (allows : Layout → History → ℕ → Type 0) (t : Lasting) (p q : S
     -- as others are polled
     slots_polled : (rows later : List Row) → Extends (history_of p.planting later) (history_of p.planting rows) → Extends (past_of q []) (history_of q.planting later) → KeepsSlotsSince t p rows old → KeepsSlotsSince t q later new
     slots_polled rows later on known x = slots_on t p q goes.number goes.planting (spares_equal t p.memory q.memory polls.notes polls.holds polls.empty polls.zeros) (polls_deal p.memory q.memory polls) rows later old new on known
+        (subst (λ l. Extends (past_of q []) (history_of q.planting l)) (sym polls.rested) (still_known p.memory.rested x.rested))
         (often ∙ x.often ∙ sym polls.often) nodes scxs x
 
     pub back_polled : (rows : List Row) → IsBack t p rows old → IsBack t q rows new
@@ -181,6 +185,7 @@ module _ (allows : Layout → History → ℕ → Type 0) (t : Lasting) (p q r :
   all_turned_on rows x one two = record {
     slots = record {
       known = ends_self (past_of r []);
+      rested = subst (λ l. Extends (past_of r []) (history_of r.planting l)) (sym (two.rests.rested ∙ one.rests.rested)) (still_known allows t q r on p.memory.rested (still_known allows t p q goes p.memory.rested x.slots.rested));
       often = often ∙ x.slots.often ∙ sym (two.rests.often ∙ one.rests.often);
       node_kind = is_node;
       scx_kind = is_scx;

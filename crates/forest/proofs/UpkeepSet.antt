@@ -11,7 +11,7 @@ use Rattle.prims.proofs.Lemmas.{all_over}
 use Rattle.slots.specs.Lasting.{Lasting}
 use Rattle.forest.specs.Shares.{EndsAsDealt}
 use Rattle.forest.specs.TableRule.{history_of, past_of}
-use Rattle.forest.specs.Seats.{StaysAtTable}
+use Rattle.forest.specs.Seats.{IsSameSeat}
 use Rattle.forest.specs.UpkeepBook.{IsAtLasting, IsBook, count_own, dealt_of}
 use Rattle.forest.specs.UpkeepDeals.{AreSlotsStill, DealsOn, HasDealt, HasGoneOnDealing, HasLeft, KeepsPolls, left_of, next_of, with_left}
 use Rattle.forest.specs.UpkeepKeeper.{DealsNoMore, HasTakenRest, IsBetween, IsSetNow, IsSetToCall, RunsSince}
@@ -75,6 +75,10 @@ module _ (allows : Layout → History → ℕ → Type 0) (t : Lasting) (p q : S
   known_since = ends_trans (past_of q []) (history_of q.planting p.known) (history_of q.planting x.kept.since) (known_dealing p q goes)
       (subst (λ (l : PlantingView). Extends (history_of l p.known) (history_of l x.kept.since)) (sym goes.planting) x.kept.slots.known)
 
+  rested_since : (kind : RecordKind) → KeepsPolls kind p.memory q.memory → Extends (past_of q []) (history_of q.planting q.memory.rested)
+  rested_since kind keeps = subst (λ l. Extends (past_of q []) (history_of q.planting l)) (sym keeps.rested) (ends_trans (past_of q []) (history_of q.planting p.known) (history_of q.planting p.memory.rested) (known_dealing p q goes)
+      (subst (λ (l : PlantingView). Extends (history_of l p.known) (history_of l p.memory.rested)) (sym goes.planting) x.kept.slots.rested))
+
   still_there : (kind : RecordKind) → KeepsPolls kind p.memory q.memory → (new.often < 4611686018427387904) ⊎ (q.memory.away ≡ false)
   still_there kind keeps = inr (keeps.away ∙ x.has.there)
 
@@ -92,6 +96,7 @@ module _ (allows : Layout → History → ℕ → Type 0) (t : Lasting) (p q : S
           since = x.kept.since;
           slots = record {
             known = known_since;
+            rested = rested_since Node keeps;
             often = often ∙ x.kept.slots.often ∙ sym keeps.often;
             node_kind = kind;
             scx_kind = ap (λ (o : OwnSlots). o.kind) scxs ∙ x.kept.slots.scx_kind;
@@ -116,6 +121,7 @@ module _ (allows : Layout → History → ℕ → Type 0) (t : Lasting) (p q : S
           since = x.kept.since;
           slots = record {
             known = known_since;
+            rested = rested_since Scx keeps;
             often = often ∙ x.kept.slots.often ∙ sym keeps.often;
             node_kind = ap (λ (o : OwnSlots). o.kind) nodes ∙ x.kept.slots.node_kind;
             scx_kind = kind;
@@ -135,7 +141,7 @@ module _ (allows : Layout → History → ℕ → Type 0) (t : Lasting) (p q : S
 pub from_dealing : (so : SeatedPass → SeatedPass → Type 0) (v w : SeatView) (p : SeatedPass) → v.passes ≡ p ∷ [] → (x : DealsOn so v w) → HasGoneOnDealing p x.later × so p x.later
 from_dealing so v w p one x = subst (λ (k : SeatedPass). HasGoneOnDealing k x.later × so k x.later) (same_pass v.passes p x.pass one x.was) (x.goes_on, x.holds)
 
-pub at_dealing : {S : Type 0} (words : Words S) (lay : Layout) (so : SeatedPass → SeatedPass → Type 0) (old new : Seat ℕ SeatView) (p : SeatedPass) → IsAtLasting words lay old p → StaysAtTable old new → (x : DealsOn so old.me.0 new.me.0) → IsAtLasting words lay new x.later
+pub at_dealing : {S : Type 0} (words : Words S) (lay : Layout) (so : SeatedPass → SeatedPass → Type 0) (old new : Seat ℕ SeatView) (p : SeatedPass) → IsAtLasting words lay old p → IsSameSeat old new → (x : DealsOn so old.me.0 new.me.0) → IsAtLasting words lay new x.later
 at_dealing words lay so old new p at stays x = let on = (from_dealing so old.me.0 new.me.0 p at.alone x).0 in record {
   table = (at.table.0, stays.0 ∙ at.table.1);
   alone = x.is;

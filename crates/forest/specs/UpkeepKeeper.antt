@@ -29,6 +29,8 @@ RunsSince count p rows (Some period) = HasPeriod count p rows period
 -- found, or is dying, was so after these rows or before.
 pub record KeepsSlotsSince (t : Lasting) (p : SeatedPass) (rows : List Row) (keeper : Keeper) : Type 0 where
   pub known : Extends (past_of p []) (history_of p.planting rows)
+  -- and it knows what it knew as it rested
+  pub rested : Extends (past_of p []) (history_of p.planting p.memory.rested)
   pub often : keeper.often ≡ p.memory.often
   pub node_kind : keeper.nodes.kind ≡ Node
   pub scx_kind : keeper.scxs.kind ≡ Scx

@@ -4,7 +4,7 @@ ghost use Rattle.std.specs.Prelude.{◌≡◌, ◌+◌, ◌<◌, ◌≤◌, ◌^
 ghost use Rattle.arena.specs.declared.step.Row.{Row};
 ghost use Rattle.slots.specs.Lasting.{IsLasting};
 ghost use Rattle.forest.specs.LastingOpening.{first_memory};
-ghost use Rattle.forest.specs.Seats.{StaysAtTable};
+ghost use Rattle.forest.specs.Seats.{IsSameSeat};
 ghost use Rattle.forest.specs.Slotted.{in_turns};
 ghost use Rattle.arena.specs.Machines.{IsRun};
 ghost use Rattle.arena.specs.Share.{Remaining};
@@ -82,7 +82,7 @@ impl Keeper {
             × (p.number ≡ number) × IsRun S.allows p.layout (past_of p [])
             × IsBetween p left.old × EndsAsDealt left.old p.memory
             × IsKeeper (slots_in words.now) p self.old }
-        ensures table { StaysAtTable seat.old seat.new }
+        ensures table { IsSameSeat seat.old seat.new }
         ensures rests { DealsOn (IsSetNow S.allows (slots_in words.now) left.new self.new)
             seat.old.me.0 seat.new.me.0 }
     {
@@ -103,7 +103,7 @@ impl Keeper {
         requires { (p : SeatedPass) × IsAtLasting words.now layout.now seat.old p
             × (p.number ≡ number) × IsRun S.allows p.layout (past_of p [])
             × IsBetween p left.now × IsKeeper (slots_in words.now) p self.old }
-        ensures table { StaysAtTable seat.old seat.new }
+        ensures table { IsSameSeat seat.old seat.new }
         ensures rests { RestsOn S.allows (HasTakenRest (slots_in words.now) self.new)
             seat.old.me.0 seat.new.me.0 }
     {
@@ -131,7 +131,7 @@ impl Keeper {
         requires { (p : SeatedPass) × (since : List Row)
             × IsAtLasting words.now layout.now seat.old p × (p.number ≡ number)
             × IsBackDuring (slots_in words.now) p since period self.old × HasLeft S.allows p left.now }
-        ensures table { StaysAtTable seat.old seat.new }
+        ensures table { IsSameSeat seat.old seat.new }
         ensures rests { RestsOn S.allows (HasTakenRest (slots_in words.now) self.new)
             seat.old.me.0 seat.new.me.0 }
     {
@@ -155,7 +155,7 @@ impl Keeper {
             × IsAtLasting words.now layout.now seat.old p
             × IsBack (slots_in words.now) p since self.old
             × HasEnded (slots_in words.now) p since × HasLeft S.allows p left.now }
-        ensures table { StaysAtTable seat.old seat.new }
+        ensures table { IsSameSeat seat.old seat.new }
         ensures turned { RestsOn S.allows (HasTurnedSlots (slots_in words.now) self.new)
             seat.old.me.0 seat.new.me.0 }
     {
@@ -176,7 +176,7 @@ impl Keeper {
         requires { (p : SeatedPass) × (since : List Row)
             × IsAtLasting words.now layout.now seat.old p × (p.number ≡ number)
             × IsBack (slots_in words.now) p since self.old }
-        ensures table { StaysAtTable seat.old seat.new }
+        ensures table { IsSameSeat seat.old seat.new }
         ensures rests { RestsOn S.allows (HasTakenRest (slots_in words.now) self.new)
             seat.old.me.0 seat.new.me.0 }
     {
@@ -193,7 +193,7 @@ impl Keeper {
     )
         requires { (p : SeatedPass) × IsAtLasting words.now layout.now seat.old p
             × IsSetToCall S.allows (slots_in words.now) p left.old self.old }
-        ensures table { StaysAtTable seat.old seat.new }
+        ensures table { IsSameSeat seat.old seat.new }
         ensures set { DealsOn (IsSetNow S.allows (slots_in words.now) left.new self.new)
             seat.old.me.0 seat.new.me.0 }
     {
@@ -238,7 +238,7 @@ fn next_name<S: Shape>(
     requires pass { (p : SeatedPass) × (left : Remaining) × (since : List Row)
         × IsAtLasting words.now layout.now seat.old p × HasLeft S.allows p left
         × (next_of own.old.kind left ≡ next) × IsBook (slots_in words.now) p since own.old }
-    ensures table { StaysAtTable seat.old seat.new }
+    ensures table { IsSameSeat seat.old seat.new }
     ensures still { AreSlotsStill own.old own.new }
     ensures few { (result ≤ own.new.dealt) × (own.new.dealt < result + 2 ^ 32) }
     ensures given { DealsOn (HasDealt S.allows (slots_in words.now) own.old own.new next result)

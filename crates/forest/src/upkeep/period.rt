@@ -140,7 +140,7 @@ impl Period {
         requires table { IsLastingSeat words.now layout.now seat.old }
         requires period { (p : SeatedPass) × (seat.old.me.0.passes ≡ p ∷ [])
             × (rows : List Row) × HasPeriod layout.now.passes p rows self.old }
-        ensures table { StaysAtTable seat.old seat.new }
+        ensures table { IsSameSeat seat.old seat.new }
         ensures polls { RestsOn S.allows
             (PollsOn layout.now.passes layout.now.passes self.old self.new)
             seat.old.me.0 seat.new.me.0 }

@@ -1,7 +1,7 @@
 //! How the share of a pass becomes the next run of free slots.
 ghost use Rattle.std.specs.Prelude.{◌≡◌, ◌+◌, ◌≤◌, List, length};
 ghost use Rattle.arena.specs.declared.step.Row.{Row};
-ghost use Rattle.forest.specs.Seats.{StaysAtTable};
+ghost use Rattle.forest.specs.Seats.{IsSameSeat};
 ghost use Rattle.forest.specs.UpkeepBook.{IsAtLasting, IsBook, slots_in};
 ghost use Rattle.forest.specs.UpkeepDeals.{AreSlotsStill, DealsOn, HasDealt, HasLeft, IsShareOf};
 ghost use Rattle.forest.specs.declared.upkeep.kind.RecordKind.{RecordKind};
@@ -27,7 +27,7 @@ pub(crate) fn deal_nodes<S: Shape>(
     requires pass { (p : SeatedPass) × (since : List Row)
         × IsAtLasting words.now layout.now seat.old p × HasLeft S.allows p share
         × IsBook (slots_in words.now) p since own.old }
-    ensures table { StaysAtTable seat.old seat.new }
+    ensures table { IsSameSeat seat.old seat.new }
     ensures still { AreSlotsStill own.old own.new }
     ensures share { IsShareOf own.new result }
     ensures scx { (result.next_scx ≡ share.next_scx) × (result.scx ≡ share.scx) }
@@ -56,7 +56,7 @@ pub(crate) fn deal_scx<S: Shape>(
     requires pass { (p : SeatedPass) × (since : List Row)
         × IsAtLasting words.now layout.now seat.old p × HasLeft S.allows p share
         × IsBook (slots_in words.now) p since own.old }
-    ensures table { StaysAtTable seat.old seat.new }
+    ensures table { IsSameSeat seat.old seat.new }
     ensures still { AreSlotsStill own.old own.new }
     ensures share { IsShareOf own.new result }
     ensures nodes { (result.next_node ≡ share.next_node) × (result.nodes ≡ share.nodes) }
