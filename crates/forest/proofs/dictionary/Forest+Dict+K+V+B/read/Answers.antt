@@ -7,7 +7,7 @@ use Rattle.forest.specs.StraightCalls.{CallHasEnded}
 use Rattle.forest.specs.Traces.{known_of, planting_of}
 use Rattle.forest.specs.declared.view.SeatView.{SeatView}
 use Rattle.forest.proofs.DictCalls.{read_starts}
-use Rattle.forest.proofs.Passes.{layout_of, call_of, in_room}
+use Rattle.forest.proofs.Passes.{layout_of, call_of}
 use Rattle.forest.proofs.Entered.{ended_keeps}
 use Rattle.forest.proofs.WholeCalls.{ended as call_over, of_first, whole_call, whole_pass}
 use Rattle.forest.proofs.dictionary.Forest+Dict+K+V+B.read.Given.{Over}
@@ -29,7 +29,7 @@ call_ended g c = c.read-reply.ensures.ends (call_of c.pass.inside c.pass.invaria
 pub invariant_of-pass : goal.invariant_of-pass
 invariant_of-pass g c =
     let e = call_ended g c in (
-      in_room _ (whole_pass g.K.WordKey.is_valid g.K.WordKey.word_of g.V.WordValue.is_valid g.V.WordValue.word_of (g.B.Balance.trie g.B.FixedBalance.the) c.pass.inside c.pass.invariant.0 c.read-reply.new.seat e.first e.last c.read-reply.result e.ends e.fresh.has_share c.pass.inside.share c.note_reply.new.self e.is_left c.note_reply.ensures c.read-reply.ensures.table.1) c.read-reply.new.room,
+      whole_pass g.K.WordKey.is_valid g.K.WordKey.word_of g.V.WordValue.is_valid g.V.WordValue.word_of (g.B.Balance.trie g.B.FixedBalance.the) c.pass.inside c.pass.invariant.0 c.read-reply.new.seat e.first e.last c.read-reply.result e.ends e.fresh.has_share c.pass.inside.share c.note_reply.new.self e.is_left c.note_reply.ensures c.read-reply.ensures.table.1,
       λ lasts. ended_keeps c.pass.inside c.pass.invariant.0 c.read-reply.new.seat _ _ c.pass.inside.share c.note_reply.new.self (call_over g.K.WordKey.is_valid g.K.WordKey.word_of g.V.WordValue.is_valid g.V.WordValue.word_of (g.B.Balance.trie g.B.FixedBalance.the) c.pass.inside c.pass.invariant.0 c.read-reply.new.seat e.first e.last c.read-reply.result e.ends) c.read-reply.ensures.table.2 (c.pass.invariant.1 lasts),
     )
 

@@ -1,5 +1,7 @@
 use Rattle.std.proofs.Common.{◌≡◌, ◌∙◌, arith, ℕ, List, refl, sym, ap, subst}
 use Rattle.template.specs.Common.{AllowsAll, IsUpdateOver, Update, Snap}
+use Rattle.arena.specs.Layout.{IsMap}
+use Rattle.forest.specs.CallSteps.{no_map_of_cells}
 use Rattle.forest.specs.Passes.{PassView, CanUse, Each, taken_of}
 use Rattle.forest.specs.PassInvariant.{pass_view}
 use Rattle.forest.specs.Puts.{IsPutOver}

@@ -8,7 +8,7 @@ use Rattle.ordered_map.specs.CallRules.{most_steps}
 use Rattle.dict.specs.Steps.{map_left}
 use Rattle.dict.specs.Typed.{TypedAllows}
 use Rattle.dict.specs.Words.{IsWordOf}
-use Rattle.forest.specs.Passes.{Ground, taken_of}
+use Rattle.forest.specs.Passes.{PassView, Ground, taken_of}
 use Rattle.forest.specs.PassInvariant.{pass_view, layout_in}
 use Rattle.forest.specs.Traces.{CallBegins, shared_nodes, weight}
 use Rattle.forest.proofs.Advances.{few_taken, weighs}
@@ -55,4 +55,7 @@ pub invariant_of-result : goal.invariant_of-result
 invariant_of-result g c = (begins_open g.K.WordKey.is_valid g.K.WordKey.word_of g.V.WordValue.is_valid g.V.WordValue.word_of (g.B.Balance.trie g.B.FixedBalance.the) c.pass.inside c.pass.invariant.0 c.new-run.result c.next-turn.new.self c.next-turn.result c.taken-call.result (named g c) c.new-run.ensures.share (first_turn g c) (few_steps g c) (asks g c) c.of-began.result (c.of-began.ensures ∙ sym c.pass.view_is), c.pass.invariant.1)
 
 pub returns-clause-left : goal.returns-clause-left
-returns-clause-left g c = subst (λ (l : Layout). weight c.next-turn.result (map_left c.next-turn.new.self.run (shared_nodes (layout_in c.pass.inside))) ≤ most_steps (call_in c.next-turn.new.self.run) c.next-turn.new.self.tries (nodes_by (g.B.Balance.trie g.B.FixedBalance.the) (shared_nodes l))) (layout_of c.pass.view_is c.self.view_is c.requires.pass ∙ ap (λ (f : Ground). f.layout) c.self.view_is) (few_steps g c)
+returns-clause-left g c =
+    let most = most_steps (call_in c.next-turn.new.self.run) c.next-turn.new.self.tries (nodes_by (g.B.Balance.trie g.B.FixedBalance.the) (shared_nodes c.args.self.now.layout)) in
+    subst (λ (v : PassView). weight c.next-turn.result (map_left c.next-turn.new.self.run (shared_nodes v.layout)) ≤ most) (sym (c.of-began.ensures ∙ sym c.pass.view_is))
+        (subst (λ (l : Layout). weight c.next-turn.result (map_left c.next-turn.new.self.run (shared_nodes (layout_in c.pass.inside))) ≤ most_steps (call_in c.next-turn.new.self.run) c.next-turn.new.self.tries (nodes_by (g.B.Balance.trie g.B.FixedBalance.the) (shared_nodes l))) (layout_of c.pass.view_is c.self.view_is c.requires.pass ∙ ap (λ (f : Ground). f.layout) c.self.view_is) (few_steps g c))

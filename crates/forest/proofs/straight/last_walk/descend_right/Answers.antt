@@ -26,7 +26,7 @@ less g c =
     (fewer c.loop-way.place.at c.loop-way.word (room c.args.way (shared_nodes (names c.args.hand))) (head_of c.loop-way.word) c.loop-way.invariant.loads refl (fits r.0 _ (way_at c.args.way (End Right) c.loop-way.place.trail c.loop-way.place.at) c.loop-way.place.turns c.loop-way.word (c.loop-way.invariant.told r.0 r.1)) c.descend-place.ensures.below.deep)
 
 pub loop-way-init : goal.loop-way-init
-loop-way-init g c = record { here = (refl, refl); loads = c.requires.stands.place; start = c.requires.stands.begins; nearer = omega arith; steps = omega arith; told = λ w x. x }
+loop-way-init g c = record { here = (refl, refl, refl); loads = c.requires.stands.place; start = c.requires.stands.begins; nearer = omega arith; steps = omega arith; told = λ w x. x }
 
 pub descend-place-requires-clause-waits : goal.descend-place-requires-clause-waits
 descend-place-requires-clause-waits g c = let r = c.requires.told in (r.0, down g (goal.at.descend-place-requires-clause-waits g c).After-goes_right c.loop-way-test.true r.0 r.1)
@@ -39,7 +39,7 @@ loop-way-preserved g c =
     let few = less g (goal.at.loop-way-preserved g c).After-descend-place in
     let one = c.descend-place.ensures.one in let two = c.read-word.ensures.one in let near = c.loop-way.invariant.nearer in let old = c.loop-way.invariant.steps in
     record {
-      here = (c.read-word.ensures.table.0 ∙ c.descend-place.ensures.table.0 ∙ c.loop-way.invariant.here.0, c.read-word.ensures.table.1 ∙ c.descend-place.ensures.table.1 ∙ c.loop-way.invariant.here.1);
+      here = (c.read-word.ensures.table.0 ∙ c.descend-place.ensures.table.0 ∙ c.loop-way.invariant.here.0, c.read-word.ensures.table.1 ∙ c.descend-place.ensures.table.1 ∙ c.loop-way.invariant.here.1, c.read-word.ensures.table.2 ∙ c.descend-place.ensures.table.2 ∙ c.loop-way.invariant.here.2);
       loads = subst LoadsHead (sym c.descend-place.ensures.below.at) tt;
       start = c.descend-place.ensures.below.begins;
       nearer = omega (arith, few, near);

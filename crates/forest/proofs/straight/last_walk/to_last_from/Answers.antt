@@ -61,7 +61,7 @@ loop-side-smaller g c = let few = less g (goal.at.loop-side-smaller g c).After-d
 
 pub loop-side-preserved : goal.loop-side-preserved
 loop-side-preserved g c = record {
-  here = (c.descend-place.ensures.table.0 ∙ c.in-Ok.ensures.table.0 ∙ c.descend_right-word.ensures.table.0 ∙ c.read-head.ensures.table.0 ∙ c.loop-side.invariant.here.0, c.descend-place.ensures.table.1 ∙ c.in-Ok.ensures.table.1 ∙ c.descend_right-word.ensures.table.1 ∙ c.read-head.ensures.table.1 ∙ c.loop-side.invariant.here.1);
+  here = (c.descend-place.ensures.table.0 ∙ c.in-Ok.ensures.table.0 ∙ c.descend_right-word.ensures.table.0 ∙ c.read-head.ensures.table.0 ∙ c.loop-side.invariant.here.0, c.descend-place.ensures.table.1 ∙ c.in-Ok.ensures.table.1 ∙ c.descend_right-word.ensures.table.1 ∙ c.read-head.ensures.table.1 ∙ c.loop-side.invariant.here.1, c.descend-place.ensures.table.2 ∙ c.in-Ok.ensures.table.2 ∙ c.descend_right-word.ensures.table.2 ∙ c.read-head.ensures.table.2 ∙ c.loop-side.invariant.here.2);
   loads = subst LoadsHead (sym c.descend-place.ensures.below.at) tt;
   start = c.descend-place.ensures.below.begins;
   steps = (

@@ -25,7 +25,7 @@ step-told-requires-clause-waits g c = let r = c.requires.stands in let u = r.0 i
 
 pub loop-turn-preserved : goal.loop-turn-preserved
 loop-turn-preserved g c = record {
-  here = (c.step-told.ensures.table.0 ∙ c.loop-turn.invariant.here.0, c.step-told.ensures.table.1 ∙ c.loop-turn.invariant.here.1);
+  here = (c.step-told.ensures.table.0 ∙ c.loop-turn.invariant.here.0, c.step-told.ensures.table.1 ∙ c.loop-turn.invariant.here.1, c.step-told.ensures.table.2 ∙ c.loop-turn.invariant.here.2);
   stands = λ u x.
       let t = told g c u x in
       told_on u _ c.loop-turn.machine c.step-turn.new.self (Some c.step-told.result) c.step-turn.result (goes_told u _ c.loop-turn.machine c.step-turn.new.self c.step-told.result c.step-turn.result c.step-turn.ensures.same c.step-turn.ensures.tries c.step-turn.ensures.spends t) (λ h. c.step-turn.ensures.turn u.call h) t;

@@ -30,7 +30,7 @@ returns-then-told-snap-clause-told g c = λ v x. told g (goal.at.returns-then-to
 
 pub loop-snap-preserved : goal.loop-snap-preserved
 loop-snap-preserved g c = record {
-  here = (c.step-told.ensures.table.0 ∙ c.loop-snap.invariant.here.0, c.step-told.ensures.table.1 ∙ c.loop-snap.invariant.here.1);
+  here = (c.step-told.ensures.table.0 ∙ c.loop-snap.invariant.here.0, c.step-told.ensures.table.1 ∙ c.loop-snap.invariant.here.1, c.step-told.ensures.table.2 ∙ c.loop-snap.invariant.here.2);
   at = ap (λ n. n + 1) c.loop-snap.invariant.at;
   steps = (let e = c.loop-snap.invariant.steps in let i = c.step-told.ensures.one in omega (arith, e, i));
   gone = λ v x.

@@ -7,7 +7,7 @@ use Rattle.forest.proofs.StraightWalk.{fits, some_left}
 use Rattle.forest.proofs.straight.walk.descend_by_keys.Goals as goal
 
 pub loop-way-init : goal.loop-way-init
-loop-way-init g c = record { here = (refl, refl); loads = c.requires.stands.place; start = c.requires.stands.begins; nearer = omega arith; steps = omega arith; told = λ w x. x }
+loop-way-init g c = record { here = (refl, refl, refl); loads = c.requires.stands.place; start = c.requires.stands.begins; nearer = omega arith; steps = omega arith; told = λ w x. x }
 
 pub step_by_key-requires-clause-stands : goal.step_by_key-requires-clause-stands
 step_by_key-requires-clause-stands g c = record { place = c.loop-way.invariant.loads; begins = c.loop-way.invariant.start }
@@ -22,7 +22,7 @@ pub loop-way-preserved : goal.loop-way-preserved
 loop-way-preserved g c =
     let few = c.in-Ok.ensures.nearer in let all = c.in-Ok.ensures.steps in let near = c.loop-way.invariant.nearer in let old = c.loop-way.invariant.steps in
     record {
-      here = (c.in-Ok.ensures.table.0 ∙ c.loop-way.invariant.here.0, c.in-Ok.ensures.table.1 ∙ c.loop-way.invariant.here.1);
+      here = (c.in-Ok.ensures.table.0 ∙ c.loop-way.invariant.here.0, c.in-Ok.ensures.table.1 ∙ c.loop-way.invariant.here.1, c.in-Ok.ensures.table.2 ∙ c.loop-way.invariant.here.2);
       loads = c.in-Ok.ensures.stands.place;
       start = c.in-Ok.ensures.stands.begins;
       nearer = omega (arith, few, near);

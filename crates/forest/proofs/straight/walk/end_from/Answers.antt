@@ -22,7 +22,7 @@ other : (g : Over) (c : Else-asked-key g) → asked_key c.args.goal c.read-key.r
 other g c = λ z. c.if-asked-key.false (c.asked_key-asked.ensures ∙ z)
 
 pub loop-hand-init : goal.loop-hand-init
-loop-hand-init g c = record { here = (refl, refl); steps = omega arith; waits = λ w turn x. rw c.requires.first (to_first w _ c.args.way c.args.goal c.args.trail turn c.args.head c.args.more x) }
+loop-hand-init g c = record { here = (refl, refl, refl); steps = omega arith; waits = λ w turn x. rw c.requires.first (to_first w _ c.args.way c.args.goal c.args.trail turn c.args.head c.args.more x) }
 
 pub read-key-requires-clause-waits : goal.read-key-requires-clause-waits
 read-key-requires-clause-waits g c = let r = c.requires.told in (r.0, way_at c.args.way c.args.goal c.args.trail (Pair c.args.head c.args.more c.loop-hand.slot), r.1, c.loop-hand.invariant.waits r.0 r.1 r.2)
@@ -41,7 +41,7 @@ returns-then-asked-key-clause-steps g c = let one = c.read-key.ensures.one in le
 
 pub loop-hand-preserved : goal.loop-hand-preserved
 loop-hand-preserved g c = record {
-  here = (c.read-key.ensures.table.0 ∙ c.loop-hand.invariant.here.0, c.read-key.ensures.table.1 ∙ c.loop-hand.invariant.here.1);
+  here = (c.read-key.ensures.table.0 ∙ c.loop-hand.invariant.here.0, c.read-key.ensures.table.1 ∙ c.loop-hand.invariant.here.1, c.read-key.ensures.table.2 ∙ c.loop-hand.invariant.here.2);
   steps = (let one = c.read-key.ensures.one in let old = c.loop-hand.invariant.steps in let next = next_slot c.args.more c.loop-hand.slot c.in-Some.next (sym c.slot_behind.ensures ∙ c.in-Some.is) in omega (arith, one, old, next));
   waits = λ w turn x. to_next w _ c.args.way c.args.goal c.args.trail turn c.args.head c.args.more c.loop-hand.slot c.read-key.result (other g (goal.at.loop-hand-preserved g c).Else-asked-key) c.in-Some.next (sym c.slot_behind.ensures ∙ c.in-Some.is) (told g (goal.at.loop-hand-preserved g c).After-read-key w turn x);
 }

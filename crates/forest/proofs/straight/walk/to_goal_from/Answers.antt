@@ -18,7 +18,7 @@ told : (g : Over) (c : After-read-head g) (w : Walker (calls g.S.Shape g.M.Machi
 told g c w x = c.read-head.ensures.told w (way_at c.args.way c.args.goal c.loop-below.place.trail c.loop-below.place.at) c.loop-below.place.turns (c.loop-below.invariant.waits w x)
 
 pub loop-below-init : goal.loop-below-init
-loop-below-init g c = record { here = (refl, refl); loads = c.requires.stands.place; start = c.requires.stands.begins; steps = omega arith; waits = λ w x. x }
+loop-below-init g c = record { here = (refl, refl, refl); loads = c.requires.stands.place; start = c.requires.stands.begins; steps = omega arith; waits = λ w x. x }
 
 pub read-head-requires-clause-start : goal.read-head-requires-clause-start
 read-head-requires-clause-start g c = c.loop-below.invariant.start
@@ -66,7 +66,7 @@ loop-below-smaller g c =
 
 pub loop-below-preserved : goal.loop-below-preserved
 loop-below-preserved g c = record {
-  here = (c.descend-place.ensures.table.0 ∙ c.in-Ok-pass_open.ensures.table.0 ∙ c.in-Ok.ensures.table.0 ∙ c.read-head.ensures.table.0 ∙ c.loop-below.invariant.here.0, c.descend-place.ensures.table.1 ∙ c.in-Ok-pass_open.ensures.table.1 ∙ c.in-Ok.ensures.table.1 ∙ c.read-head.ensures.table.1 ∙ c.loop-below.invariant.here.1);
+  here = (c.descend-place.ensures.table.0 ∙ c.in-Ok-pass_open.ensures.table.0 ∙ c.in-Ok.ensures.table.0 ∙ c.read-head.ensures.table.0 ∙ c.loop-below.invariant.here.0, c.descend-place.ensures.table.1 ∙ c.in-Ok-pass_open.ensures.table.1 ∙ c.in-Ok.ensures.table.1 ∙ c.read-head.ensures.table.1 ∙ c.loop-below.invariant.here.1, c.descend-place.ensures.table.2 ∙ c.in-Ok-pass_open.ensures.table.2 ∙ c.in-Ok.ensures.table.2 ∙ c.read-head.ensures.table.2 ∙ c.loop-below.invariant.here.2);
   loads = subst LoadsHead (sym c.descend-place.ensures.below.at) tt;
   start = c.descend-place.ensures.below.begins;
   steps = (
