@@ -22,7 +22,7 @@ use arena::{Layout, Shape};
 use atomic_table::Seat;
 
 /// What is known of each slot once a period is over: what was dying is free, what was found is
-/// dying, and of what is used some is found. It makes up to 20 steps a slot.
+/// dying, and of what is used some is found. It makes up to 22 steps a slot.
 pub(crate) fn turn_all<S: Shape>(
     words: &Words<S>,
     layout: &Layout,
