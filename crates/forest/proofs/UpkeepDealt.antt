@@ -394,15 +394,15 @@ deals_more allows t old mid new a b c u v w still x y = deals_on (HasDealt allow
 
 -- what is left of a share of this kind, is what is dealt behind its next name
 pub share_is : (own : OwnSlots) (kind : RecordKind) (left : Remaining) → own.kind ≡ kind → IsShareOf own left → (own.dealt ≡ next_of kind left + left_of kind left) × (left_of kind left ≤ length own.slots.items)
-share_is own kind left e x = subst (λ (k : RecordKind). (own.dealt ≡ next_of k left + left_of k left) × (left_of k left ≤ length own.slots.items)) e (x.dealt, x.few)
+share_is own k left e x = subst (λ (k : RecordKind). (own.dealt ≡ next_of k left + left_of k left) × (left_of k left ≤ length own.slots.items)) e (x.dealt, x.few)
 
 pub is_share : (own : OwnSlots) (kind : RecordKind) (left : Remaining) → own.kind ≡ kind → own.dealt ≡ next_of kind left + left_of kind left → left_of kind left ≤ length own.slots.items → IsShareOf own left
-is_share own kind left e dealt few = record {
+is_share own k left e dealt few = record {
   dealt = subst (λ (k : RecordKind). own.dealt ≡ next_of k left + left_of k left) (sym e) dealt;
   few = subst (λ (k : RecordKind). left_of k left ≤ length own.slots.items) (sym e) few;
 }
 
 -- a share of what is dealt from that name on
 pub shared : (allows : Layout → History → ℕ → Type 0) (t : Lasting) (old new : OwnSlots) (kind : RecordKind) (share result : Remaining) (to : ℕ) (p q : SeatedPass) → old.kind ≡ kind → result ≡ with_left kind share to (new.dealt - to) → HasDealt allows t old new (next_of kind share) to p q → HasLeft allows p share → HasLeft allows q result
-shared allows t old new kind share result to p q e is x has = subst (λ (l : Remaining). HasLeft allows q l) (sym is)
+shared allows t old new k share result to p q e is x has = subst (λ (l : Remaining). HasLeft allows q l) (sym is)
     (subst (λ (k : RecordKind). HasLeft allows q (with_left k share to (new.dealt - to))) e (x.left share has (ap (λ (k : RecordKind). next_of k share) e)))

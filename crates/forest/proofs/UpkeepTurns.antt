@@ -3,12 +3,13 @@ use Rattle.std.proofs.Common.{◌≡◌, ◌≢◌, ◌<◌, ◌+◌, ℕ, zero,
 use native.Mathlib.Decide.{ℕ_discrete}
 use Rattle.arena.proofs.Lemmas.{ends_self}
 use Rattle.arena.specs.declared.number.PassNo.{PassNo}
-use Rattle.histories.specs.Common.{Layout, Row, History, Extends}
+use Rattle.histories.specs.Common.{Extends, History, Layout, Remaining, Row}
 use Rattle.planting.specs.Plantings.{PlantingView}
 use Rattle.resting.specs.Records.{Record}
 use Rattle.slots.specs.Lasting.{IsOwnRecord, Lasting}
 use Rattle.forest.specs.TableRule.{history_of, past_of}
 use Rattle.forest.specs.UpkeepBook.{AreAllOwn, AreSameSlots, AreSlotsSo, HasEnded, HasTakenBelow, HasTurned, IsBook, IsKnownSo, IsOfKind, IsSlotSo, KeepsRests, KnowsNow, SparesOthers, count_own, dealt_of, first_own, record_numbered, turn_of}
+use Rattle.forest.specs.UpkeepDeals.{HasLeft, next_of}
 use Rattle.forest.specs.UpkeepSteps.{HasGoneOnResting}
 use Rattle.forest.specs.declared.upkeep.book.OwnSlot.{OwnSlot}
 use Rattle.forest.specs.declared.upkeep.book.OwnSlots.{OwnSlots}
@@ -16,7 +17,7 @@ use Rattle.forest.specs.declared.upkeep.kind.RecordKind.{RecordKind}
 use Rattle.forest.specs.declared.upkeep.kind.RecordKind.TheVariants.{Node, Scx}
 use Rattle.forest.specs.declared.view.SeatedPass.{SeatedPass}
 use Rattle.forest.proofs.UpkeepBook.{known_kept, rests_on, rests_same, spares_more, spares_on, spares_same}
-use Rattle.forest.proofs.UpkeepTurn.{known_on, still_taken}
+use Rattle.forest.proofs.UpkeepTurn.{known_later, known_on, still_taken}
 
 -- Lists
 
@@ -155,3 +156,17 @@ module _ (t : Lasting) (old : OwnSlots) where
       dealt_same : (k : RecordKind) → dealt_of k q.memory ≡ dealt_of k p.memory
       dealt_same Node = z.rests.nodes_to
       dealt_same Scx = z.rests.scx_to
+
+-- All slots
+
+-- what is known by a moment is known by one behind it
+pub book_later : (t : Lasting) (p : SeatedPass) (since later : List Row) (own : OwnSlots) → Extends (history_of p.planting later) (history_of p.planting since) → IsBook t p since own → IsBook t p later own
+book_later t p since later own on book = record {
+  all = book.all;
+  slots = λ i x from to there. known_later t p.planting p.number.0 p.memory since later on own.kind (own.first + i) x.name x.known (book.slots i x from to there);
+}
+
+-- so it has taken what its share gave
+pub taken_by_share : (allows : Layout → History → ℕ → Type 0) (p : SeatedPass) (left : Remaining) (kind : RecordKind) → HasLeft allows p left → HasTakenBelow p kind (next_of kind left)
+taken_by_share allows p left Node has n own less = has.share.taken_nodes n own less
+taken_by_share allows p left Scx has n own less = has.share.taken_scx n own less

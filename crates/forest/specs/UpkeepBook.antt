@@ -22,6 +22,7 @@ use Rattle.forest.specs.declared.upkeep.kind.RecordKind.{RecordKind}
 use Rattle.forest.specs.declared.upkeep.kind.RecordKind.TheVariants.{Node, Scx}
 use Rattle.forest.specs.declared.upkeep.book.Known.{Known}
 use Rattle.forest.specs.declared.upkeep.book.Known.TheVariants.{Used, Found, Dying, Free}
+use Rattle.forest.specs.declared.upkeep.book.Book.{Book}
 use Rattle.forest.specs.declared.upkeep.book.OwnSlot.{OwnSlot}
 use Rattle.forest.specs.declared.upkeep.book.OwnSlots.{OwnSlots}
 use Rattle.forest.specs.declared.view.SeatedPass.{SeatedPass}
@@ -204,3 +205,15 @@ pub record HasTurned (t : Lasting) (own : OwnSlots) (p q : SeatedPass) : Type 0 
   pub rests : KeepsRests p.memory q.memory
   pub book : IsBook t q q.known own
   pub others : (other : OwnSlots) (since : List Row) → other.kind ≢ own.kind → IsBook t p since other → IsBook t q since other
+
+-- so it is of all its slots
+pub record IsWholeBook (t : Lasting) (p : SeatedPass) (since : List Row) (book : Book) : Type 0 where
+  pub node_kind : book.nodes.kind ≡ Node
+  pub scx_kind : book.scx.kind ≡ Scx
+  pub nodes : IsBook t p since book.nodes
+  pub scx : IsBook t p since book.scx
+
+-- the pass p, which is q now, has a whole book that is right
+pub record HasTurnedAll (t : Lasting) (turned : Book) (p q : SeatedPass) : Type 0 where
+  pub rests : KeepsRests p.memory q.memory
+  pub book : IsWholeBook t q q.known turned

@@ -1,7 +1,8 @@
 -- When a pass sees that an SCX-record of its own is dead.
-use Rattle.std.specs.Prelude.{◌≡◌, ◌<◌, ℕ, [], ◌∷◌}
-use Rattle.arena.specs.ScxRecords.{count}
+use Rattle.std.specs.Prelude.{◌≡◌, ◌<◌, ℕ, true, [], ◌∷◌}
+use Rattle.arena.specs.ScxRecords.{count, count_of, plan_finalizes}
 use Rattle.histories.specs.Common.{History, Layout, ScxWord, scx, value}
+use Rattle.resting.specs.Dead.{WasDoneWith}
 use Rattle.slots.specs.Lasting.{Lasting}
 use Rattle.forest.specs.LastingNotes.{IsAmongThese, noted_as}
 use Rattle.forest.specs.LastingRule.{LoadsWord}
@@ -26,10 +27,15 @@ pub record HasLoaded (s : ℕ) (part : ScxWord) (n : ℕ) (p q : SeatedPass) : T
 abbrev pub IsDoneNoted : PassMemory → (s j : ℕ) → Type 0
 IsDoneNoted m s j = IsAmongThese (noted_as (numbered Scx s) (DoneWith j)) m.notes
 
+-- it is committed, by its state, and finalizes the node of this place, by its plan
+abbrev pub IsRemoval : (state plan i : ℕ) → Type 0
+IsRemoval state plan i = (state ≡ 1) × (i < count_of plan) × (plan_finalizes plan i ≡ true)
+
 -- The pass p, which is q now, has found the SCX-record, of so many nodes, done with those before
--- this place.
-pub record IsDoneTo (t : Lasting) (slot s number j : ℕ) (p q : SeatedPass) : Type 0 where
+-- this place; and it is done with those that it has removed.
+pub record IsDoneTo (t : Lasting) (slot s number state plan j : ℕ) (p q : SeatedPass) : Type 0 where
   pub keeps : KeepsOthers t (record_numbered Scx slot) p q
   pub holds : q.memory.holds ≡ p.memory.holds
   pub nodes : count (past_of q []) s ≡ number
   pub done : (i : ℕ) → i < j → IsDoneNoted q.memory s i
+  pub removed : (i : ℕ) → IsRemoval state plan i → WasDoneWith q.layout (past_of q []) s i

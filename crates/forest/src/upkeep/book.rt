@@ -42,3 +42,10 @@ pub(crate) struct OwnSlots {
     ghost turns: { (0 < turn) × (turn ≤ 2 ^ 61) },
     ghost ends: { (dealt ≤ end) × (end ≤ 2 ^ 61) },
 }
+
+/// What a pass knows of all its own slots.
+#[derive(Drop)]
+pub(crate) struct Book {
+    pub(crate) nodes: OwnSlots,
+    pub(crate) scx: OwnSlots,
+}

@@ -1,11 +1,12 @@
 //! How a pass sees that an SCX-record of its own is dead: it is finished, as each is between two
 //! calls, and the info of none of its nodes names it any more.
-ghost use Rattle.std.specs.Prelude.{◌≡◌, ◌<◌, ◌%◌, ℕ, if◌then◌else◌, [], ◌∷◌};
+ghost use Rattle.std.specs.Prelude.{◌≡◌, ◌<◌, ℕ, true, IsTrue, if◌then◌else◌, [], ◌∷◌};
 ghost use Rattle.arena.specs.Layout.{place, table_size};
-ghost use Rattle.arena.specs.ScxRecords.{count, member};
+ghost use Rattle.arena.specs.ScxRecords.{count, member, plan_finalizes};
 ghost use Rattle.arena.specs.Share.{Remaining};
 ghost use Rattle.arena.specs.Words.{IsScxWord, info};
 ghost use Rattle.arena.specs.declared.number.ScxNo.{ScxNo};
+ghost use Rattle.resting.specs.Dead.{WasDoneWith};
 ghost use Rattle.slots.specs.Lasting.{IsOwnRecord, IsTaken, table_place};
 ghost use Rattle.forest.specs.LastingNotes.{IsAmongThese, memory_done};
 ghost use Rattle.forest.specs.Seats.{IsSameSeat};
@@ -23,7 +24,7 @@ use crate::lasting_sights::{finished_last, sights_last};
 use crate::upkeep::kind::RecordName;
 use crate::view::SeatView;
 use crate::words::Words;
-use arena::{Layout, NodeNo, NodeWord, Plan, ScxNo, ScxWord, Shape, Word};
+use arena::{COMMITTED, Layout, MemberIndex, NodeNo, NodeWord, Plan, ScxNo, ScxWord, Shape, Word};
 use atomic_table::Seat;
 use std::marker::Brand;
 
@@ -39,6 +40,16 @@ struct ScxPart {
 struct Covered {
     name: u64,
     place: u8,
+}
+
+/// Whether an SCX-record of this state and plan has removed its node of this place.
+fn has_removed(state: u64, plan: Plan, place: u8) -> bool
+    ensures { IsTrue result → (state ≡ 1) × (plan_finalizes plan.0 place ≡ true) }
+{
+    match MemberIndex::new(place as usize) {
+        Some(j) if state == COMMITTED => plan.finalizes(j),
+        _ => false,
+    }
 }
 
 /// Loads a word of the SCX-record of this name, which is in this slot.
@@ -145,7 +156,65 @@ fn is_done_with<S: Shape>(
     is_let_go(words, layout, seat, at, of)
 }
 
-/// Whether the SCX-record of this name, in this slot, is dead; it is noted then. It makes up to 10
+/// Notes that the SCX-record is done with a node, as the pass knows: it is committed, and finalizes
+/// the node.
+fn note_done<S: Shape>(
+    words: &Words<S>,
+    layout: &Layout,
+    seat: &mut Seat<u8, SeatView>,
+    at: usize,
+    of: Covered,
+)
+    requires { (p : SeatedPass) × (left : Remaining) × IsAtLasting words.now layout.now seat.old p
+        × (at < table_size layout.now) × HasLeft S.allows p left
+        × IsAmongThese (numbered RecordKind.Scx of.name) p.memory.holds
+        × IsTaken (past_of p []) (record_numbered RecordKind.Scx of.name)
+        × WasDoneWith p.layout (past_of p []) of.name of.place }
+    ensures table { StaysAtTable seat.old seat.new }
+    ensures looked { RestsOn S.allows (Remembers
+        (λ m rows. memory_with_note m (numbered RecordKind.Scx of.name) (NoteView.DoneWith of.place)))
+        seat.old.me.0 seat.new.me.0 }
+{
+    finished_last::<S>();
+    words.load_with::<Brand, Covered>(seat, at, of);
+}
+
+/// Whether the SCX-record is done with a node, which it has removed or is looked at; it is noted
+/// then.
+fn is_done<S: Shape>(
+    words: &Words<S>,
+    layout: &Layout,
+    seat: &mut Seat<u8, SeatView>,
+    at: usize,
+    slot: u64,
+    of: Covered,
+    node_turn: u64,
+    removed: bool,
+) -> bool
+    requires place { of.place < 4 }
+    requires turn { (0 < node_turn) × (node_turn ≡ (slots_in words.now).node_turn) }
+    requires at { at < table_size layout.now }
+    requires pass { (p : SeatedPass) × (left : Remaining) × IsAtLasting words.now layout.now seat.old p
+        × HasLeft S.allows p left × IsOwnRecord layout.now p.number.0 (record_numbered RecordKind.Scx slot)
+        × IsNameIn (slots_in words.now) p.number.0 p.memory RecordKind.Scx slot of.name
+        × IsTaken (past_of p []) (record_numbered RecordKind.Scx of.name)
+        × (IsTrue removed → WasDoneWith p.layout (past_of p []) of.name of.place) }
+    ensures table { StaysAtTable seat.old seat.new }
+    ensures looked { RestsOn S.allows (Remembers
+        (λ m rows. if result
+        then memory_with_note m (numbered RecordKind.Scx of.name) (NoteView.DoneWith of.place)
+        else m))
+        seat.old.me.0 seat.new.me.0 }
+{
+    if removed {
+        note_done(words, layout, seat, at, of);
+        true
+    } else {
+        is_done_with(words, layout, seat, slot, of, node_turn)
+    }
+}
+
+/// Whether the SCX-record of this name, in this slot, is dead; it is noted then. It makes up to 11
 /// steps.
 pub(crate) fn is_over<S: Shape>(
     words: &Words<S>,
@@ -171,15 +240,15 @@ pub(crate) fn is_over<S: Shape>(
         part: ScxWord::Plan,
     };
     let plan = Plan(load_part(words, layout, seat, slot, part));
+    let part = ScxPart {
+        name,
+        part: ScxWord::State,
+    };
+    let state = load_part(words, layout, seat, slot, part);
     for place in 0..plan.count() {
-        if !is_done_with(
-            words,
-            layout,
-            seat,
-            slot,
-            Covered { name, place },
-            node_turn,
-        ) {
+        let of = Covered { name, place };
+        let removed = has_removed(state, plan, place);
+        if !is_done(words, layout, seat, at, slot, of, node_turn, removed) {
             return false;
         }
     }

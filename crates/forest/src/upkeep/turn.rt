@@ -7,10 +7,10 @@ ghost use Rattle.forest.specs.Seats.{IsSameSeat};
 ghost use Rattle.forest.specs.TableRule.{past_of};
 ghost use Rattle.forest.specs.UpkeepDeals.{HasLeft};
 ghost use Rattle.forest.specs.UpkeepSteps.{RestsOn};
-ghost use Rattle.forest.specs.UpkeepBook.{AreSameSlots, HasEnded, HasFreed, HasTakenBelow, HasTurned, IsAtLasting, IsBook, IsNameIn, IsSlotSo, KnowsNow, WasDying, record_numbered, slots_in};
+ghost use Rattle.forest.specs.UpkeepBook.{AreSameSlots, HasEnded, HasFreed, HasTakenBelow, HasTurned, HasTurnedAll, IsAtLasting, IsBook, IsNameIn, IsSlotSo, IsWholeBook, KnowsNow, WasDying, record_numbered, slots_in};
 ghost use Rattle.forest.specs.declared.view.SeatedPass.{SeatedPass};
 
-use crate::upkeep::book::{Known, OwnSlot, OwnSlots};
+use crate::upkeep::book::{Book, Known, OwnSlot, OwnSlots};
 use crate::upkeep::clean::{clean, let_go};
 use crate::upkeep::kind::{RecordKind, RecordName};
 use crate::upkeep::looks::{is_marked, note_dying, note_gone};
@@ -18,11 +18,34 @@ use crate::upkeep::part::word_at;
 use crate::upkeep::scx::is_over;
 use crate::view::SeatView;
 use crate::words::Words;
-use arena::{Layout, Shape};
+use arena::{Layout, Shape, Share};
 use atomic_table::Seat;
 
+/// What is known of all slots of the pass once a period has ended. What the share gives next, and
+/// what is behind that, nobody has taken.
+pub(crate) fn turn_book<S: Shape>(
+    words: &Words<S>,
+    layout: &Layout,
+    seat: &mut Seat<u8, SeatView>,
+    book: &mut Book,
+    share: &Share,
+)
+    requires { (p : SeatedPass) × (since : List Row) × IsAtLasting words.now layout.now seat.old p
+        × HasEnded (slots_in words.now) p since × HasLeft S.allows p share.now
+        × IsWholeBook (slots_in words.now) p since book.old }
+    ensures table { StaysAtTable seat.old seat.new }
+    ensures same { AreSameSlots book.old.nodes book.new.nodes × AreSameSlots book.old.scx book.new.scx }
+    ensures turned { RestsOn S.allows (HasTurnedAll (slots_in words.now) book.new)
+        seat.old.me.0 seat.new.me.0 }
+{
+    let (node, scx) = share.next();
+    let node_turn = book.nodes.turn;
+    turn_all(words, layout, seat, &mut book.nodes, node.0, node_turn);
+    turn_all(words, layout, seat, &mut book.scx, scx.0, node_turn);
+}
+
 /// What is known of each slot once a period is over: what was dying is free, what was found is
-/// dying, and of what is used some is found. It makes up to 20 steps a slot.
+/// dying, and of what is used some is found. It makes up to 22 steps a slot.
 pub(crate) fn turn_all<S: Shape>(
     words: &Words<S>,
     layout: &Layout,
