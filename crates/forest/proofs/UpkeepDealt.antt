@@ -15,7 +15,7 @@ use Rattle.forest.specs.TableRule.{history_of, past_of}
 use Rattle.forest.specs.UpkeepBook.{AreAllOwn, HasFreed, IsAtLasting, IsBook, IsKnownSo, IsNameIn, IsOfKind, IsSlotSo, KeepsRests, SparesOthers, count_own, dealt_of, first_own, numbered, record_numbered, slots_in, turn_of}
 use Rattle.forest.specs.Seats.{IsSameSeat}
 use Rattle.forest.specs.UpkeepSteps.{HasGoneOnResting, RestsOn}
-use Rattle.forest.specs.UpkeepDeals.{AreSlotsStill, DealsOn, HasDealt, HasGoneOnDealing, HasLeft, HasNameFor, IsFreeAt, IsNameAt, IsShareOf, KeepsPolls, MayGet, ahead, left_of, memory_given, next_of, with_left}
+use Rattle.forest.specs.UpkeepDeals.{AreSlotsStill, DealsOn, HasDealt, HasGoneOnDealing, HasLeft, HasNameFor, IsFreeAt, IsNameAt, KeepsPolls, MayGet, ahead, memory_given, next_of, with_left}
 use Rattle.forest.specs.declared.memory.PassMemory.{PassMemory}
 use Rattle.forest.specs.declared.memory.RecordNo.{RecordNo}
 use Rattle.forest.specs.declared.upkeep.book.Known.{Known}
@@ -389,20 +389,3 @@ module _ {S : Type 0} (allows : Layout → History → ℕ → Type 0) (words : 
 -- names are dealt, and then more
 pub deals_more : (allows : Layout → History → ℕ → Type 0) (t : Lasting) (old mid new : OwnSlots) (a b c : ℕ) (u v w : SeatView) → AreSlotsStill old mid → DealsOn (HasDealt allows t old mid a b) u v → DealsOn (HasDealt allows t mid new b c) v w → DealsOn (HasDealt allows t old new a c) u w
 deals_more allows t old mid new a b c u v w still x y = deals_on (HasDealt allows t old mid a b) (HasDealt allows t mid new b c) (HasDealt allows t old new a c) u v w (λ p q r. dealt_on allows t old mid new a b c p q r still.kind) x y
-
--- Shares
-
--- what is left of a share of this kind, is what is dealt behind its next name
-pub share_is : (own : OwnSlots) (kind : RecordKind) (left : Remaining) → own.kind ≡ kind → IsShareOf own left → (own.dealt ≡ next_of kind left + left_of kind left) × (left_of kind left ≤ length own.slots.items)
-share_is own k left e x = subst (λ (k : RecordKind). (own.dealt ≡ next_of k left + left_of k left) × (left_of k left ≤ length own.slots.items)) e (x.dealt, x.few)
-
-pub is_share : (own : OwnSlots) (kind : RecordKind) (left : Remaining) → own.kind ≡ kind → own.dealt ≡ next_of kind left + left_of kind left → left_of kind left ≤ length own.slots.items → IsShareOf own left
-is_share own k left e dealt few = record {
-  dealt = subst (λ (k : RecordKind). own.dealt ≡ next_of k left + left_of k left) (sym e) dealt;
-  few = subst (λ (k : RecordKind). left_of k left ≤ length own.slots.items) (sym e) few;
-}
-
--- a share of what is dealt from that name on
-pub shared : (allows : Layout → History → ℕ → Type 0) (t : Lasting) (old new : OwnSlots) (kind : RecordKind) (share result : Remaining) (to : ℕ) (p q : SeatedPass) → old.kind ≡ kind → result ≡ with_left kind share to (new.dealt - to) → HasDealt allows t old new (next_of kind share) to p q → HasLeft allows p share → HasLeft allows q result
-shared allows t old new k share result to p q e is x has = subst (λ (l : Remaining). HasLeft allows q l) (sym is)
-    (subst (λ (k : RecordKind). HasLeft allows q (with_left k share to (new.dealt - to))) e (x.left share has (ap (λ (k : RecordKind). next_of k share) e)))

@@ -141,9 +141,3 @@ pub record HasDealt (allows : Layout → History → ℕ → Type 0) (t : Lastin
   pub book : (since : List Row) → IsBook t p since old → IsBook t q since new
   pub others : (other : OwnSlots) (since : List Row) → other.kind ≢ old.kind → IsBook t p since other → IsBook t q since other
   pub left : (left : Remaining) → HasLeft allows p left → next_of old.kind left ≡ from → HasLeft allows q (with_left old.kind left to (new.dealt - to))
-
--- of this kind the share has left what is dealt behind its next name, and no more than there are
--- slots
-pub record IsShareOf (own : OwnSlots) (left : Remaining) : Type 0 where
-  pub dealt : own.dealt ≡ next_of own.kind left + left_of own.kind left
-  pub few : left_of own.kind left ≤ length own.slots.items

@@ -26,7 +26,6 @@ pub(crate) mod open;
 pub(crate) mod part;
 pub(crate) mod period;
 pub(crate) mod scx;
-pub(crate) mod share;
 pub(crate) mod turn;
 
 /// How often a pass rests at most, so that twice as much fits a word: many more times than any

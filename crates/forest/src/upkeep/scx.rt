@@ -170,7 +170,7 @@ fn note_done<S: Shape>(
         × IsAmongThese (numbered RecordKind.Scx of.name) p.memory.holds
         × IsTaken (past_of p []) (record_numbered RecordKind.Scx of.name)
         × WasDoneWith p.layout (past_of p []) of.name of.place }
-    ensures table { StaysAtTable seat.old seat.new }
+    ensures table { IsSameSeat seat.old seat.new }
     ensures looked { RestsOn S.allows (Remembers
         (λ m rows. memory_with_note m (numbered RecordKind.Scx of.name) (NoteView.DoneWith of.place)))
         seat.old.me.0 seat.new.me.0 }
@@ -199,7 +199,7 @@ fn is_done<S: Shape>(
         × IsNameIn (slots_in words.now) p.number.0 p.memory RecordKind.Scx slot of.name
         × IsTaken (past_of p []) (record_numbered RecordKind.Scx of.name)
         × (IsTrue removed → WasDoneWith p.layout (past_of p []) of.name of.place) }
-    ensures table { StaysAtTable seat.old seat.new }
+    ensures table { IsSameSeat seat.old seat.new }
     ensures looked { RestsOn S.allows (Remembers
         (λ m rows. if result
         then memory_with_note m (numbered RecordKind.Scx of.name) (NoteView.DoneWith of.place)

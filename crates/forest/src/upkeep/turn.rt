@@ -33,7 +33,7 @@ pub(crate) fn turn_book<S: Shape>(
     requires { (p : SeatedPass) × (since : List Row) × IsAtLasting words.now layout.now seat.old p
         × HasEnded (slots_in words.now) p since × HasLeft S.allows p share.now
         × IsWholeBook (slots_in words.now) p since book.old }
-    ensures table { StaysAtTable seat.old seat.new }
+    ensures table { IsSameSeat seat.old seat.new }
     ensures same { AreSameSlots book.old.nodes book.new.nodes × AreSameSlots book.old.scx book.new.scx }
     ensures turned { RestsOn S.allows (HasTurnedAll (slots_in words.now) book.new)
         seat.old.me.0 seat.new.me.0 }
