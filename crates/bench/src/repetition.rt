@@ -8,9 +8,8 @@ use crate::tally::Tally;
 use crate::task::Task;
 use crate::work::{Loaded, Work};
 use crate::{cells, dictionary, load, locked};
-use arena::Shape;
 use dict::{ByBits, ByOrder};
-use forest::{Forest, Pass};
+use forest::{Forest, Pass, TableShape};
 use std::alloc::{AllocError, Global};
 use std::rt::Clock;
 use std::sync::Wait;
@@ -57,7 +56,7 @@ pub fn run<R: Threads + Wait + Sync + Clock + AllocGlobal>(
 }
 
 /// Each pass with the number of its thread.
-pub fn numbered<S: Shape>(
+pub fn numbered<S: TableShape>(
     alloc: Global,
     forest: &Forest<S>,
     passes: Vec<Pass<S>>,

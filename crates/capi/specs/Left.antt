@@ -14,6 +14,7 @@ use Rattle.ordered_map.specs.Spelled.{Spells}
 use Rattle.forest.specs.Passes.{PassView, AreAllBack, IsClosed, done_of, run_of}
 use Rattle.forest.specs.Shares.{entries_of}
 use Rattle.forest.specs.TableRule.{history_of}
+use Rattle.forest.specs.declared.table_shape.Keeping.{Ghosts}
 use Rattle.capi.specs.Owned.{pass_of}
 use Rattle.capi.specs.declared.held.Held.{Held}
 use Rattle.capi.specs.declared.client.OwnedPass.{OwnedPass}
@@ -40,7 +41,7 @@ pub record AreLeftByAll (lay : Layout) (passes : List PassView) (pairs : List (�
   pub spelled : Spells lay (value (history_of closed.planting closed.rows)) (map (word_pair (λ k. k) (λ v. v)) pairs)
 
 -- how a holder may close: the pairs are left, or an allocation was refused; or it is as it was
-abbrev pub IsClosingOf : {B : Type 0} → Held B → Result (Option (Vec (ℕ × ℕ))) (Held B) → Type 0
+abbrev pub IsClosingOf : {B : Type 0} {g : Ghosts B} → Held B g → Result (Option (Vec (ℕ × ℕ))) (Held B g) → Type 0
 IsClosingOf c (Ok (Some pairs)) = AreLeft c.pass pairs.items
 IsClosingOf c (Ok None) = Unit {0}
 IsClosingOf c (Err d) = d ≡ c

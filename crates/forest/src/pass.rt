@@ -136,7 +136,7 @@ impl<S: TableShape> Pass<S> {
         let birth = Snapshot::of(&seat);
         let node = turns.first_node(layout, number);
         let scx = turns.first_scx(layout, number);
-        let keeper = Keeper::new(alloc, layout, turns, number, node, scx)?;
+        let keeper = Keeper::new(alloc, layout, &turns, number)?;
         Ok(Pass {
             number,
             first_scx: scx,

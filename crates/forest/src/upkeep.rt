@@ -19,6 +19,7 @@ pub(crate) mod book;
 pub(crate) mod clean;
 pub(crate) mod deal;
 pub(crate) mod keeper;
+pub(crate) mod kept;
 pub(crate) mod kind;
 pub(crate) mod looks;
 pub(crate) mod names;
