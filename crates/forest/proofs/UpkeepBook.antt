@@ -10,12 +10,12 @@ use Rattle.forest.specs.LastingMemory.{record_at}
 use Rattle.forest.specs.LastingNotes.{IsAmongThese}
 use Rattle.forest.specs.LastingSlots.{memory_cleared, memory_let_go, of_others, slot_number}
 use Rattle.forest.specs.TableRule.{history_of}
-use Rattle.forest.specs.UpkeepBook.{IsKnownSo, IsNameIn, KeepsRests, SparesOthers, memory_with_note, numbered, record_numbered}
+use Rattle.forest.specs.UpkeepBook.{IsKnownSo, IsNameIn, KeepsRests, SparesOthers, memory_with_note, kind_number, record_numbered}
 use Rattle.forest.specs.declared.memory.NoteView.{NoteView}
 use Rattle.forest.specs.declared.memory.PassMemory.{PassMemory}
 use Rattle.forest.specs.declared.memory.RecordNo.{RecordNo}
-use Rattle.forest.specs.declared.upkeep.book.Known.{Known}
-use Rattle.forest.specs.declared.upkeep.book.Known.TheVariants.{Used, Found, Dying, Free}
+use Rattle.forest.specs.declared.upkeep.book.SlotState.{SlotState}
+use Rattle.forest.specs.declared.upkeep.book.SlotState.TheVariants.{Used, Found, Dying, Free}
 use Rattle.forest.specs.declared.upkeep.kind.RecordKind.{RecordKind}
 use Rattle.forest.proofs.LastingSlots.{slot_number_is}
 
@@ -90,23 +90,23 @@ spares_cleared t Is m w = record { notes = λ x i. i; holds = λ x i d. i; empty
 -- What is known of a slot
 
 -- the slot that a name is in, as a record
-pub slot_record : (t : Lasting) (kind : RecordKind) (slot name : ℕ) → slot_number t (numbered kind name) ≡ numbered kind slot → slot_of t (record_numbered kind name) ≡ record_numbered kind slot
-slot_record t kind slot name is = sym (slot_number_is t (numbered kind name)) ∙ ap record_at is
+pub slot_record : (t : Lasting) (kind : RecordKind) (slot name : ℕ) → slot_number t (kind_number kind name) ≡ kind_number kind slot → slot_of t (record_numbered kind name) ≡ record_numbered kind slot
+slot_record t kind slot name is = sym (slot_number_is t (kind_number kind name)) ∙ ap record_at is
 
 module _ (t : Lasting) (planting : PlantingView) (o : ℕ) (m n : PassMemory) (Is : Record → Type 0) (spares : SparesOthers t Is m n) (since later : List Row) (on : Extends (history_of planting later) (history_of planting since)) (kind : RecordKind) (slot name : ℕ) (apart : ¬ Is (record_numbered kind slot)) where
   name_kept : IsNameIn t o m kind slot name → IsNameIn t o n kind slot name
   name_kept x = record {
-    held = spares.holds (numbered kind name) x.held (λ e. apart (subst Is (slot_record t kind slot name x.slot_is) e));
+    held = spares.holds (kind_number kind name) x.held (λ e. apart (subst Is (slot_record t kind slot name x.slot_is) e));
     own = x.own;
     slot_is = x.slot_is;
   }
 
   -- it stays so while something is done with another slot
-  pub known_kept : (known : Known) → IsKnownSo t planting o m since kind slot name known → IsKnownSo t planting o n later kind slot name known
+  pub known_kept : (known : SlotState) → IsKnownSo t planting o m since kind slot name known → IsKnownSo t planting o n later kind slot name known
   known_kept Used x = name_kept x
   known_kept Found x = (name_kept x.0, let f = x.1 in record { rows = f.rows; noted = spares.notes _ f.noted; before = ends_trans _ _ _ on f.before })
   known_kept Dying x = (name_kept x.0, let f = x.1 in record { rows = f.rows; noted = spares.notes _ f.noted; before = ends_trans _ _ _ on f.before })
   known_kept Free x = record {
-    empty = spares.empty (numbered kind slot) x.empty apart;
+    empty = spares.empty (kind_number kind slot) x.empty apart;
     zeros = λ w i e. spares.zeros w (x.zeros w i e) (λ q. apart (subst Is e q));
   }

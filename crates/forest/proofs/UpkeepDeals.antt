@@ -14,9 +14,9 @@ use Rattle.forest.specs.LastingNames.{MayGiveName, past_nodes, past_scxs}
 use Rattle.forest.specs.LastingRule.{GoesOnWith}
 use Rattle.forest.specs.Passes.{Each}
 use Rattle.forest.specs.TableRule.{ByOthers, history_of, past_of, seated_pass}
-use Rattle.forest.specs.UpkeepBook.{count_own, dealt_of, first_own, numbered}
+use Rattle.forest.specs.UpkeepBook.{count_own, dealt_of, first_own, kind_number}
 use Rattle.forest.specs.UpkeepSteps.{HasGoneOnResting, RestsOn}
-use Rattle.forest.specs.UpkeepDeals.{DealsOn, HasGoneOnDealing, HasLeft, HasPassedTo, IsOfNoCall, MayGet, ahead, memory_given, next_of, past_names, with_left}
+use Rattle.forest.specs.UpkeepDeals.{DealsOn, HasGoneOnDealing, HasShareLeft, HasPassedTo, IsOfNoCall, MayGet, ahead, memory_given, next_of, past_names, with_left}
 use Rattle.forest.specs.declared.memory.PassMemory.{PassMemory}
 use Rattle.forest.specs.declared.memory.RecordNo.{RecordNo}
 use Rattle.forest.specs.declared.upkeep.kind.RecordKind.{RecordKind}
@@ -29,7 +29,7 @@ use Rattle.forest.proofs.Ruled.{same_pass}
 use Rattle.forest.proofs.UpkeepShares.{IsPast, past_names_left, share_as}
 
 -- a slot that may get a name, may be given it
-pub may_give : (allows : Layout → History → ℕ → Type 0) (t : Lasting) (p : SeatedPass) (left : Remaining) (kind : RecordKind) (slot count : ℕ) → p.number.0 < t.lay.passes → HasLeft allows p left → MayGet t p kind slot count → MayGiveName t p left (ahead kind p.memory count) (numbered kind slot)
+pub may_give : (allows : Layout → History → ℕ → Type 0) (t : Lasting) (p : SeatedPass) (left : Remaining) (kind : RecordKind) (slot count : ℕ) → p.number.0 < t.lay.passes → HasShareLeft allows p left → MayGet t p kind slot count → MayGiveName t p left (ahead kind p.memory count) (kind_number kind slot)
 may_give allows t p left kind slot count is_pass has may = record {
   is_pass = is_pass;
   there = has.there;
@@ -109,13 +109,13 @@ module _ (allows : Layout → History → ℕ → Type 0) (t : Lasting) (kind : 
   rows_of k others = past_names kind o dealt count k.planting (others ++ k.known)
 
   abbrev later_of : SeatedPass → List Row → SeatedPass
-  later_of k others = seated_pass k.number.0 k.layout k.planting (memory_given kind p.memory count (numbered kind slot) (rows_of k others)) (rows_of k others)
+  later_of k others = seated_pass k.number.0 k.layout k.planting (memory_given kind p.memory count (kind_number kind slot) (rows_of k others)) (rows_of k others)
 
-  past_left : (others : List Row) → ByOthers o others → IsRun allows p.layout (history_of p.planting (rows_of p others)) → (left : Remaining) → HasLeft allows p left → next_of kind left ≡ dealt → IsOwnName t o (record_at (ahead kind p.memory count)) → p.layout ≡ t.lay → HasLeft allows (later_of p others) (with_left kind left (dealt + count) 1)
+  past_left : (others : List Row) → ByOthers o others → IsRun allows p.layout (history_of p.planting (rows_of p others)) → (left : Remaining) → HasShareLeft allows p left → next_of kind left ≡ dealt → IsOwnName t o (record_at (ahead kind p.memory count)) → p.layout ≡ t.lay → HasShareLeft allows (later_of p others) (with_left kind left (dealt + count) 1)
   past_left others by run left has same own layout = record {
     is_pass = has.is_pass;
     run = run;
-    there = given_there kind p.memory count (numbered kind slot) (rows_of p others) ∙ has.there;
+    there = given_there kind p.memory count (kind_number kind slot) (rows_of p others) ∙ has.there;
     share = share_one;
     over = past.over;
   }
@@ -152,7 +152,7 @@ module _ (allows : Layout → History → ℕ → Type 0) (t : Lasting) (kind : 
         known = x.2 ∙ sym (append_assoc x.0 others p.known);
       }
 
-  pub past_learnt : GoesOnWith allows (past_names kind o dealt count) (memory_given kind p.memory count (numbered kind slot)) v w → DealsOn (HasPassedTo allows t kind slot count) v w
+  pub past_learnt : GoesOnWith allows (past_names kind o dealt count) (memory_given kind p.memory count (kind_number kind slot)) v w → DealsOn (HasPassedTo allows t kind slot count) v w
   past_learnt z = by_pass z.pass (same_pass v.passes p z.pass one z.was) z.others z.by_others z.run z.passes
     where
       direct : (others : List Row) → ByOthers o others → IsRun allows p.layout (history_of p.planting (rows_of p others)) → w.passes ≡ later_of p others ∷ [] → DealsOn (HasPassedTo allows t kind slot count) v w
@@ -175,7 +175,7 @@ deals_as one two v w p alone to x =
     record { pass = p; later = x.later; was = alone; is = x.is; goes_on = y.0; holds = to x.later y.0 y.1 }
 
 -- what is left of its share is so while others go on
-pub left_on : (allows : Layout → History → ℕ → Type 0) (p q : SeatedPass) (left : Remaining) → HasGoneOnResting allows p q → q.memory.away ≡ p.memory.away → HasLeft allows p left → HasLeft allows q left
+pub left_on : (allows : Layout → History → ℕ → Type 0) (p q : SeatedPass) (left : Remaining) → HasGoneOnResting allows p q → q.memory.away ≡ p.memory.away → HasShareLeft allows p left → HasShareLeft allows q left
 left_on allows p q left goes away has = record {
   is_pass = subst (λ (l : Layout). q.number.0 < l.passes) (sym goes.layout) (subst (λ (k : PassNo). k.0 < p.layout.passes) (sym goes.number) has.is_pass);
   run = goes.sound has.run;
@@ -195,7 +195,7 @@ left_on allows p q left goes away has = record {
     lawful = subst (Lawful p.layout) run_is (subst (λ (l : Layout). Lawful l (past_of q [])) goes.layout (goes.sound has.run).lawful)
 
 -- so many are left from the same name on
-pub left_as : (allows : Layout → History → ℕ → Type 0) (p : SeatedPass) (left : Remaining) (kind : RecordKind) (next count : ℕ) → next_of kind left ≡ next → next + count ≤ first_own kind p.layout p.number.0 + count_own kind p.layout → HasLeft allows p left → HasLeft allows p (with_left kind left next count)
+pub left_as : (allows : Layout → History → ℕ → Type 0) (p : SeatedPass) (left : Remaining) (kind : RecordKind) (next count : ℕ) → next_of kind left ≡ next → next + count ≤ first_own kind p.layout p.number.0 + count_own kind p.layout → HasShareLeft allows p left → HasShareLeft allows p (with_left kind left next count)
 left_as allows p left kind next count same few has = record {
   is_pass = has.is_pass;
   run = has.run;

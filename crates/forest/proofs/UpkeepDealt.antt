@@ -12,14 +12,14 @@ use Rattle.forest.specs.LastingMemory.{record_at}
 use Rattle.forest.specs.LastingNotes.{IsAmongThese}
 use Rattle.forest.specs.LastingSlots.{IsLastDealt, IsNotBefore, memory_given_back, slot_number}
 use Rattle.forest.specs.TableRule.{history_of, past_of}
-use Rattle.forest.specs.UpkeepBook.{AreAllOwn, HasFreed, IsAtLasting, IsBook, IsKnownSo, IsNameIn, IsOfKind, IsSlotSo, KeepsRests, SparesOthers, count_own, dealt_of, first_own, numbered, record_numbered, slots_in, turn_of}
+use Rattle.forest.specs.UpkeepBook.{AreAllOwn, HasFreed, IsAtLasting, IsBook, IsKnownSo, IsNameIn, IsOfRecordKind, IsSlotSo, KeepsRests, SparesOthers, count_own, dealt_of, first_own, kind_number, record_numbered, slots_in, turn_of}
 use Rattle.forest.specs.Seats.{StaysAtTable}
 use Rattle.forest.specs.UpkeepSteps.{HasGoneOnResting, RestsOn}
-use Rattle.forest.specs.UpkeepDeals.{AreSlotsStill, DealsOn, HasDealt, HasGoneOnDealing, HasLeft, HasNameFor, IsFreeAt, IsNameAt, IsShareOf, KeepsPolls, MayGet, ahead, left_of, memory_given, next_of, with_left}
+use Rattle.forest.specs.UpkeepDeals.{AreSlotsStill, DealsOn, HasDealt, HasGoneOnDealing, HasShareLeft, HasNameFor, IsFreeAt, IsNameAt, IsShareOf, KeepsPolls, MayGet, ahead, left_of_kind, memory_given, next_of, with_left}
 use Rattle.forest.specs.declared.memory.PassMemory.{PassMemory}
 use Rattle.forest.specs.declared.memory.RecordNo.{RecordNo}
-use Rattle.forest.specs.declared.upkeep.book.Known.{Known}
-use Rattle.forest.specs.declared.upkeep.book.Known.TheVariants.{Free, Used}
+use Rattle.forest.specs.declared.upkeep.book.SlotState.{SlotState}
+use Rattle.forest.specs.declared.upkeep.book.SlotState.TheVariants.{Free, Used}
 use Rattle.forest.specs.declared.upkeep.book.OwnSlot.{OwnSlot}
 use Rattle.forest.specs.declared.upkeep.book.OwnSlots.{OwnSlots}
 use Rattle.forest.specs.declared.upkeep.kind.RecordKind.{RecordKind}
@@ -42,7 +42,7 @@ within [] i x e = absurd (let z : None ≡ Some x = e in cc)
 within (y ∷ ys) zero x e = omega arith
 within (y ∷ ys) (suc i) x e = let less : i < length ys = within ys i x e in omega (arith, less)
 
-ahead_is : (kind : RecordKind) (m : PassMemory) (count : ℕ) → ahead kind m count ≡ numbered kind (dealt_of kind m + count)
+ahead_is : (kind : RecordKind) (m : PassMemory) (count : ℕ) → ahead kind m count ≡ kind_number kind (dealt_of kind m + count)
 ahead_is Node m count = refl
 ahead_is Scx m count = refl
 
@@ -55,11 +55,11 @@ own_from : (kind : RecordKind) (lay : Layout) (o n : ℕ) → first_own kind lay
 own_from Node lay o n from below = record { from = from; below = below }
 own_from Scx lay o n from below = record { from = from; below = below }
 
-slot_in_turn : (kind : RecordKind) (t : Lasting) (n s : ℕ) → n % turn_of kind t ≡ s → slot_number t (numbered kind n) ≡ numbered kind s
-slot_in_turn Node t n s e = ap (numbered Node) e
-slot_in_turn Scx t n s e = ap (numbered Scx) e
+slot_in_turn : (kind : RecordKind) (t : Lasting) (n s : ℕ) → n % turn_of kind t ≡ s → slot_number t (kind_number kind n) ≡ kind_number kind s
+slot_in_turn Node t n s e = ap (kind_number Node) e
+slot_in_turn Scx t n s e = ap (kind_number Scx) e
 
-module _ (allows : Layout → History → ℕ → Type 0) (t : Lasting) (p : SeatedPass) (left : Remaining) (since : List Row) (own : OwnSlots) (i count : ℕ) (layout : p.layout ≡ t.lay) (has : HasLeft allows p left) (less : next_of own.kind left ≤ dealt_of own.kind p.memory) (book : IsBook t p since own) (free : IsFreeAt own i) (name : HasNameFor own i count) where
+module _ (allows : Layout → History → ℕ → Type 0) (t : Lasting) (p : SeatedPass) (left : Remaining) (since : List Row) (own : OwnSlots) (i count : ℕ) (layout : p.layout ≡ t.lay) (has : HasShareLeft allows p left) (less : next_of own.kind left ≤ dealt_of own.kind p.memory) (book : IsBook t p since own) (free : IsFreeAt own i) (name : HasNameFor own i count) where
   abbrev o : ℕ
   o = p.number.0
 
@@ -71,7 +71,7 @@ module _ (allows : Layout → History → ℕ → Type 0) (t : Lasting) (p : Sea
       (let from = next_own own.kind p.layout (past_of p []) o left has.share in omega (arith, from, less))
       (subst (λ (l : Layout). n < first_own own.kind l o + count_own own.kind l) (sym layout) (let inside = name.inside in let e = book.all.dealt in let end = book.all.end in omega (arith, inside, e, end)))
 
-  in_slot : slot_number t (numbered own.kind n) ≡ numbered own.kind (own.first + i)
+  in_slot : slot_number t (kind_number own.kind n) ≡ kind_number own.kind (own.first + i)
   in_slot = slot_in_turn own.kind t n (own.first + i) (ap (λ k. n % k) (sym book.all.turn) ∙ ap (λ k. (k + count) % own.turn) (sym book.all.dealt) ∙ name.slot_is)
 
   slot_own : IsOwnRecord t.table o (record_numbered own.kind (own.first + i))
@@ -82,13 +82,13 @@ module _ (allows : Layout → History → ℕ → Type 0) (t : Lasting) (p : Sea
   may_get = record {
     own = subst (λ (n : RecordNo). IsOwnName t o (record_at n)) (sym (ahead_is own.kind p.memory count)) (subst (λ (l : Layout). IsOwnRecord l o (record_numbered own.kind n)) layout its_own, subst (IsOwnRecord t.table o) (sym (slot_record t own.kind (own.first + i) n in_slot)) slot_own);
     slot_is = ap (slot_number t) (ahead_is own.kind p.memory count) ∙ in_slot;
-    clean = subst (λ (k : Known). IsKnownSo t p.planting o p.memory since own.kind (own.first + i) free.0.name k) free.2 (book.slots i free.0 (omega arith) (within own.slots.items i free.0 free.1) free.1);
+    clean = subst (λ (k : SlotState). IsKnownSo t p.planting o p.memory since own.kind (own.first + i) free.0.name k) free.2 (book.slots i free.0 (omega arith) (within own.slots.items i free.0 free.1) free.1);
   }
 
 -- After
 
 -- what is remembered of other slots is so still
-given_spares : (t : Lasting) (kind : RecordKind) (slot count : ℕ) (m : PassMemory) (rows : List Row) → SparesOthers t (λ r. r ≡ record_numbered kind slot) m (memory_given kind m count (numbered kind slot) rows)
+given_spares : (t : Lasting) (kind : RecordKind) (slot count : ℕ) (m : PassMemory) (rows : List Row) → SparesOthers t (λ r. r ≡ record_numbered kind slot) m (memory_given kind m count (kind_number kind slot) rows)
 given_spares t Node slot count m rows = record {
   notes = λ x i. i;
   holds = λ x i d. inr i;
@@ -133,7 +133,7 @@ all_still t p q old new still number dealt all = record {
 }
 
 -- a slot has got its next name
-module _ (t : Lasting) (old new : OwnSlots) (i count : ℕ) (p q : SeatedPass) (number : q.number ≡ p.number) (planting : q.planting ≡ p.planting) (memory : q.memory ≡ memory_given old.kind p.memory count (numbered old.kind (old.first + i)) q.known) (still : AreSlotsStill old new) (dealt : new.dealt ≡ old.dealt + count + 1) (slots : new.slots.items ≡ set old.slots.items i record { name = old.dealt + count; known = Used }) (may : MayGet t p old.kind (old.first + i) count) where
+module _ (t : Lasting) (old new : OwnSlots) (i count : ℕ) (p q : SeatedPass) (number : q.number ≡ p.number) (planting : q.planting ≡ p.planting) (memory : q.memory ≡ memory_given old.kind p.memory count (kind_number old.kind (old.first + i)) q.known) (still : AreSlotsStill old new) (dealt : new.dealt ≡ old.dealt + count + 1) (slots : new.slots.items ≡ set old.slots.items i record { name = old.dealt + count; known = Used }) (may : MayGet t p old.kind (old.first + i) count) where
   abbrev kind : RecordKind
   kind = old.kind
 
@@ -141,25 +141,25 @@ module _ (t : Lasting) (old new : OwnSlots) (i count : ℕ) (p q : SeatedPass) (
   slot = old.first + i
 
   pub keeps : KeepsPolls kind p.memory q.memory
-  keeps = subst (λ (m : PassMemory). KeepsPolls kind p.memory m) (sym memory) (given_keeps kind p.memory count (numbered kind slot) q.known)
+  keeps = subst (λ (m : PassMemory). KeepsPolls kind p.memory m) (sym memory) (given_keeps kind p.memory count (kind_number kind slot) q.known)
 
   spares : SparesOthers t (λ r. r ≡ record_numbered kind slot) p.memory q.memory
   spares = subst (λ (m : PassMemory). SparesOthers t (λ r. r ≡ record_numbered kind slot) p.memory m) (sym memory) (given_spares t kind slot count p.memory q.known)
 
-  spares_kind : SparesOthers t (IsOfKind kind) p.memory q.memory
-  spares_kind = spares_more t (λ r. r ≡ record_numbered kind slot) (IsOfKind kind) p.memory q.memory (λ r e. subst (IsOfKind kind) (sym e) (is_of_kind kind slot)) spares
+  spares_kind : SparesOthers t (IsOfRecordKind kind) p.memory q.memory
+  spares_kind = spares_more t (λ r. r ≡ record_numbered kind slot) (IsOfRecordKind kind) p.memory q.memory (λ r e. subst (IsOfRecordKind kind) (sym e) (is_of_kind kind slot)) spares
 
   -- its slots of the other kind are as they were
   pub others : (other : OwnSlots) (since : List Row) → other.kind ≢ kind → IsBook t p since other → IsBook t q since other
   others other since apart = other_book t p q number planting kind spares_kind other since apart (keeps.others other.kind apart)
 
   module _ (since : List Row) (book : IsBook t p since old) where
-    name_is : ahead kind p.memory count ≡ numbered kind (old.dealt + count)
-    name_is = ahead_is kind p.memory count ∙ ap (λ n. numbered kind (n + count)) (sym book.all.dealt)
+    name_is : ahead kind p.memory count ≡ kind_number kind (old.dealt + count)
+    name_is = ahead_is kind p.memory count ∙ ap (λ n. kind_number kind (n + count)) (sym book.all.dealt)
 
     named : IsNameIn t q.number.0 q.memory kind slot (old.dealt + count)
     named = record {
-      held = subst (λ (n : RecordNo). IsAmongThese n q.memory.holds) name_is (subst (λ (m : PassMemory). IsAmongThese (ahead kind p.memory count) m.holds) (sym memory) (given_holds kind p.memory count (numbered kind slot) q.known));
+      held = subst (λ (n : RecordNo). IsAmongThese n q.memory.holds) name_is (subst (λ (m : PassMemory). IsAmongThese (ahead kind p.memory count) m.holds) (sym memory) (given_holds kind p.memory count (kind_number kind slot) q.known));
       own = subst (λ (k : PassNo). IsOwnRecord t.lay k.0 (record_numbered kind (old.dealt + count))) (sym number) (subst (λ (n : RecordNo). IsOwnRecord t.lay p.number.0 (record_at n)) name_is may.own.0);
       slot_is = ap (slot_number t) (sym name_is) ∙ may.slot_is;
     }
@@ -173,13 +173,13 @@ module _ (t : Lasting) (old new : OwnSlots) (i count : ℕ) (p q : SeatedPass) (
 
     pub book_then : IsBook t q since new
     book_then = record {
-      all = all_still t p q old new still number (dealt ∙ (let e = book.all.dealt in let z : old.dealt + count + 1 ≡ dealt_of kind p.memory + suc count = omega (arith, e) in z) ∙ sym (given_dealt kind p.memory count (numbered kind slot) q.known) ∙ ap (λ (m : PassMemory). dealt_of kind m) (sym memory) ∙ ap (λ (k : RecordKind). dealt_of k q.memory) (sym still.kind)) book.all;
+      all = all_still t p q old new still number (dealt ∙ (let e = book.all.dealt in let z : old.dealt + count + 1 ≡ dealt_of kind p.memory + suc count = omega (arith, e) in z) ∙ sym (given_dealt kind p.memory count (kind_number kind slot) q.known) ∙ ap (λ (m : PassMemory). dealt_of kind m) (sym memory) ∙ ap (λ (k : RecordKind). dealt_of k q.memory) (sym still.kind)) book.all;
       slots = λ j x from to there. subst (λ (k : RecordKind). IsSlotSo t q since k (new.first + j) x) (sym still.kind) (subst (λ n. IsSlotSo t q since kind (n + j) x) (sym still.first)
           (known j x there (subst (λ n. j < n) still.count to) (ℕ_discrete j i)));
     }
 
 -- a slot has got the name behind those that are dealt, of which those from `next` on are left
-pub next_dealt : (allows : Layout → History → ℕ → Type 0) (t : Lasting) (old new : OwnSlots) (i next : ℕ) (p q : SeatedPass) (since : List Row) → HasGoneOnResting allows p q → q.memory ≡ memory_given old.kind p.memory 0 (numbered old.kind (old.first + i)) q.known → AreSlotsStill old new → new.dealt ≡ old.dealt + 1 → new.slots.items ≡ set old.slots.items i record { name = old.dealt; known = Used } → MayGet t p old.kind (old.first + i) 0 → HasNameFor old i 0 → IsBook t p since old → p.layout ≡ t.lay → next ≤ old.dealt → HasDealt allows t old new next next p q
+pub next_dealt : (allows : Layout → History → ℕ → Type 0) (t : Lasting) (old new : OwnSlots) (i next : ℕ) (p q : SeatedPass) (since : List Row) → HasGoneOnResting allows p q → q.memory ≡ memory_given old.kind p.memory 0 (kind_number old.kind (old.first + i)) q.known → AreSlotsStill old new → new.dealt ≡ old.dealt + 1 → new.slots.items ≡ set old.slots.items i record { name = old.dealt; known = Used } → MayGet t p old.kind (old.first + i) 0 → HasNameFor old i 0 → IsBook t p since old → p.layout ≡ t.lay → next ≤ old.dealt → HasDealt allows t old new next next p q
 next_dealt allows t old new i next p q since goes memory still dealt slots may name book layout less = record {
   keeps = kept;
   book = λ other before. book_then t old new i 0 p q goes.number goes.planting memory still dealt_is slots_are may other before;
@@ -211,7 +211,7 @@ pub is_left : (kind : RecordKind) (left : Remaining) (name : ℕ) → next_of ki
 is_left Node left name less = less
 is_left Scx left name less = less
 
-back_spares : (t : Lasting) (kind : RecordKind) (m : PassMemory) (name : ℕ) (slot : Record) → slot_of t (record_numbered kind name) ≡ slot → SparesOthers t (λ r. r ≡ slot) m (memory_given_back t m (numbered kind name))
+back_spares : (t : Lasting) (kind : RecordKind) (m : PassMemory) (name : ℕ) (slot : Record) → slot_of t (record_numbered kind name) ≡ slot → SparesOthers t (λ r. r ≡ slot) m (memory_given_back t m (kind_number kind name))
 back_spares t Node m name s is = record {
   notes = λ x i. i;
   holds = λ x i d. among_others record_at (record_numbered Node name) x m.holds i (λ e. d (ap (slot_of t) e ∙ is));
@@ -225,23 +225,23 @@ back_spares t Scx m name s is = record {
   zeros = λ w i d. i;
 }
 
-back_empty : (t : Lasting) (kind : RecordKind) (m : PassMemory) (name : ℕ) → IsAmongThese (slot_number t (numbered kind name)) (memory_given_back t m (numbered kind name)).empty
+back_empty : (t : Lasting) (kind : RecordKind) (m : PassMemory) (name : ℕ) → IsAmongThese (slot_number t (kind_number kind name)) (memory_given_back t m (kind_number kind name)).empty
 back_empty t Node m name = inl refl
 back_empty t Scx m name = inl refl
 
-back_dealt : (t : Lasting) (kind : RecordKind) (m : PassMemory) (name : ℕ) → dealt_of kind (memory_given_back t m (numbered kind name)) ≡ name
+back_dealt : (t : Lasting) (kind : RecordKind) (m : PassMemory) (name : ℕ) → dealt_of kind (memory_given_back t m (kind_number kind name)) ≡ name
 back_dealt t Node m name = refl
 back_dealt t Scx m name = refl
 
-back_keeps : (t : Lasting) (kind : RecordKind) (m : PassMemory) (name : ℕ) → KeepsPolls kind m (memory_given_back t m (numbered kind name))
+back_keeps : (t : Lasting) (kind : RecordKind) (m : PassMemory) (name : ℕ) → KeepsPolls kind m (memory_given_back t m (kind_number kind name))
 back_keeps t Node m name = record { away = refl; often = refl; polls = refl; others = others }
   where
-    others : (other : RecordKind) → other ≢ Node → dealt_of other (memory_given_back t m (numbered Node name)) ≡ dealt_of other m
+    others : (other : RecordKind) → other ≢ Node → dealt_of other (memory_given_back t m (kind_number Node name)) ≡ dealt_of other m
     others Node d = absurd (d refl)
     others Scx d = refl
 back_keeps t Scx m name = record { away = refl; often = refl; polls = refl; others = others }
   where
-    others : (other : RecordKind) → other ≢ Scx → dealt_of other (memory_given_back t m (numbered Scx name)) ≡ dealt_of other m
+    others : (other : RecordKind) → other ≢ Scx → dealt_of other (memory_given_back t m (kind_number Scx name)) ≡ dealt_of other m
     others Node d = refl
     others Scx d = absurd (d refl)
 
@@ -253,12 +253,12 @@ module _ (allows : Layout → History → ℕ → Type 0) (t : Lasting) (old new
   -- the slot holds the name
   pub name_there : IsNameIn t p.number.0 p.memory old.kind (old.first + i) name
   name_there = subst (λ n. IsNameIn t p.number.0 p.memory old.kind (old.first + i) n) at.3
-      (subst (λ (k : Known). IsKnownSo t p.planting p.number.0 p.memory since old.kind (old.first + i) at.0.name k) at.2 (book.slots i at.0 (omega arith) (within old.slots.items i at.0 at.1) at.1))
+      (subst (λ (k : SlotState). IsKnownSo t p.planting p.number.0 p.memory since old.kind (old.first + i) at.0.name k) at.2 (book.slots i at.0 (omega arith) (within old.slots.items i at.0 at.1) at.1))
 
-  module _ (q : SeatedPass) (memory : q.memory ≡ memory_given_back t p.memory (numbered old.kind name)) where
+  module _ (q : SeatedPass) (memory : q.memory ≡ memory_given_back t p.memory (kind_number old.kind name)) where
     -- its slot is empty then
-    pub empty_then : IsAmongThese (numbered old.kind (old.first + i)) q.memory.empty
-    empty_then = subst (λ (m : PassMemory). IsAmongThese (numbered old.kind (old.first + i)) m.empty) (sym memory) (subst (λ (n : RecordNo). IsAmongThese n (memory_given_back t p.memory (numbered old.kind name)).empty) name_there.slot_is (back_empty t old.kind p.memory name))
+    pub empty_then : IsAmongThese (kind_number old.kind (old.first + i)) q.memory.empty
+    empty_then = subst (λ (m : PassMemory). IsAmongThese (kind_number old.kind (old.first + i)) m.empty) (sym memory) (subst (λ (n : RecordNo). IsAmongThese n (memory_given_back t p.memory (kind_number old.kind name)).empty) name_there.slot_is (back_empty t old.kind p.memory name))
 
     module _ (r : SeatedPass) (goes : HasGoneOnResting allows p q) (on : HasGoneOnResting allows q r) (freed : HasFreed t old.kind (old.first + i) q r) (still : AreSlotsStill old new) (dealt : new.dealt ≡ name) (slots : new.slots.items ≡ set old.slots.items i record { name = name; known = Free }) where
       number : r.number ≡ p.number
@@ -278,8 +278,8 @@ module _ (allows : Layout → History → ℕ → Type 0) (t : Lasting) (old new
       spared : SparesOthers t (λ k. k ≡ record_numbered old.kind (old.first + i)) p.memory r.memory
       spared = spares_on t (λ k. k ≡ record_numbered old.kind (old.first + i)) p.memory q.memory r.memory (subst (λ (m : PassMemory). SparesOthers t (λ k. k ≡ record_numbered old.kind (old.first + i)) p.memory m) (sym memory) (back_spares t old.kind p.memory name (record_numbered old.kind (old.first + i)) (slot_record t old.kind (old.first + i) name name_there.slot_is))) freed.keeps.others
 
-      spared_kind : SparesOthers t (IsOfKind old.kind) p.memory r.memory
-      spared_kind = spares_more t (λ k. k ≡ record_numbered old.kind (old.first + i)) (IsOfKind old.kind) p.memory r.memory (λ k e. subst (IsOfKind old.kind) (sym e) (is_of_kind old.kind (old.first + i))) spared
+      spared_kind : SparesOthers t (IsOfRecordKind old.kind) p.memory r.memory
+      spared_kind = spares_more t (λ k. k ≡ record_numbered old.kind (old.first + i)) (IsOfRecordKind old.kind) p.memory r.memory (λ k e. subst (IsOfRecordKind old.kind) (sym e) (is_of_kind old.kind (old.first + i))) spared
 
       dealt_then : new.dealt ≡ dealt_of old.kind r.memory
       dealt_then = dealt ∙ sym (back_dealt t old.kind p.memory name) ∙ ap (λ (m : PassMemory). dealt_of old.kind m) (sym memory) ∙ sym (same_rests old.kind q.memory r.memory freed.keeps.rests)
@@ -336,8 +336,8 @@ dealt_on allows t old mid new a b c p q r same x y = record {
   };
   book = λ since book. y.book since (x.book since book);
   others = λ other since d book. y.others other since (λ e. d (e ∙ same)) (x.others other since d book);
-  left = λ left has is. subst (λ (l : Remaining). HasLeft allows r l) (left_again old.kind left b (mid.dealt - b) c (new.dealt - c))
-      (subst (λ (k : RecordKind). HasLeft allows r (with_left k (with_left old.kind left b (mid.dealt - b)) c (new.dealt - c))) same
+  left = λ left has is. subst (λ (l : Remaining). HasShareLeft allows r l) (left_again old.kind left b (mid.dealt - b) c (new.dealt - c))
+      (subst (λ (k : RecordKind). HasShareLeft allows r (with_left k (with_left old.kind left b (mid.dealt - b)) c (new.dealt - c))) same
       (y.left (with_left old.kind left b (mid.dealt - b)) (x.left left has is) (ap (λ (k : RecordKind). next_of k (with_left old.kind left b (mid.dealt - b))) same ∙ next_is old.kind left b (mid.dealt - b))));
 }
 
@@ -352,9 +352,9 @@ pub still_same : (a : OwnSlots) → AreSlotsStill a a
 still_same a = record { kind = refl; first = refl; turn = refl; end = refl; count = refl }
 
 -- what the pass has then, and what is known of its slots
-module _ {S : Type 0} (allows : Layout → History → ℕ → Type 0) (words : Words S) (lay : Layout) (u v : Seat ℕ SeatView) (old own : OwnSlots) (next to : ℕ) (p : SeatedPass) (left : Remaining) (since : List Row) (here : IsAtLasting words lay u p) (has : HasLeft allows p left) (is : next_of old.kind left ≡ next) (book : IsBook (slots_in words) p since old) (stays : StaysAtTable u v) (still : AreSlotsStill old own) where
+module _ {S : Type 0} (allows : Layout → History → ℕ → Type 0) (words : Words S) (lay : Layout) (u v : Seat ℕ SeatView) (old own : OwnSlots) (next to : ℕ) (p : SeatedPass) (left : Remaining) (since : List Row) (here : IsAtLasting words lay u p) (has : HasShareLeft allows p left) (is : next_of old.kind left ≡ next) (book : IsBook (slots_in words) p since old) (stays : StaysAtTable u v) (still : AreSlotsStill old own) where
   abbrev AsksNow : Type 0
-  AsksNow = (x : SeatedPass) × (x' : Remaining) × (x'' : List Row) × IsAtLasting words lay v x × HasLeft allows x x' × (next_of own.kind x' ≡ to) × IsBook (slots_in words) x x'' own
+  AsksNow = (x : SeatedPass) × (x' : Remaining) × (x'' : List Row) × IsAtLasting words lay v x × HasShareLeft allows x x' × (next_of own.kind x' ≡ to) × IsBook (slots_in words) x x'' own
 
   pub pass_now : RestsOn allows (HasDealt allows (slots_in words) old own next to) u.me.0 v.me.0 → AsksNow
   pass_now so = let on = from_pass allows (HasDealt allows (slots_in words) old own next to) u.me.0 v.me.0 p here.alone so in (
@@ -391,16 +391,16 @@ deals_more allows t old mid new a b c u v w still x y = deals_on (HasDealt allow
 -- Shares
 
 -- what is left of a share of this kind, is what is dealt behind its next name
-pub share_is : (own : OwnSlots) (kind : RecordKind) (left : Remaining) → own.kind ≡ kind → IsShareOf own left → (own.dealt ≡ next_of kind left + left_of kind left) × (left_of kind left ≤ length own.slots.items)
-share_is own k left e x = subst (λ (k : RecordKind). (own.dealt ≡ next_of k left + left_of k left) × (left_of k left ≤ length own.slots.items)) e (x.dealt, x.few)
+pub share_is : (own : OwnSlots) (kind : RecordKind) (left : Remaining) → own.kind ≡ kind → IsShareOf own left → (own.dealt ≡ next_of kind left + left_of_kind kind left) × (left_of_kind kind left ≤ length own.slots.items)
+share_is own k left e x = subst (λ (k : RecordKind). (own.dealt ≡ next_of k left + left_of_kind k left) × (left_of_kind k left ≤ length own.slots.items)) e (x.dealt, x.few)
 
-pub is_share : (own : OwnSlots) (kind : RecordKind) (left : Remaining) → own.kind ≡ kind → own.dealt ≡ next_of kind left + left_of kind left → left_of kind left ≤ length own.slots.items → IsShareOf own left
+pub is_share : (own : OwnSlots) (kind : RecordKind) (left : Remaining) → own.kind ≡ kind → own.dealt ≡ next_of kind left + left_of_kind kind left → left_of_kind kind left ≤ length own.slots.items → IsShareOf own left
 is_share own k left e dealt few = record {
-  dealt = subst (λ (k : RecordKind). own.dealt ≡ next_of k left + left_of k left) (sym e) dealt;
-  few = subst (λ (k : RecordKind). left_of k left ≤ length own.slots.items) (sym e) few;
+  dealt = subst (λ (k : RecordKind). own.dealt ≡ next_of k left + left_of_kind k left) (sym e) dealt;
+  few = subst (λ (k : RecordKind). left_of_kind k left ≤ length own.slots.items) (sym e) few;
 }
 
 -- a share of what is dealt from that name on
-pub shared : (allows : Layout → History → ℕ → Type 0) (t : Lasting) (old new : OwnSlots) (kind : RecordKind) (share result : Remaining) (to : ℕ) (p q : SeatedPass) → old.kind ≡ kind → result ≡ with_left kind share to (new.dealt - to) → HasDealt allows t old new (next_of kind share) to p q → HasLeft allows p share → HasLeft allows q result
-shared allows t old new k share result to p q e is x has = subst (λ (l : Remaining). HasLeft allows q l) (sym is)
-    (subst (λ (k : RecordKind). HasLeft allows q (with_left k share to (new.dealt - to))) e (x.left share has (ap (λ (k : RecordKind). next_of k share) e)))
+pub shared : (allows : Layout → History → ℕ → Type 0) (t : Lasting) (old new : OwnSlots) (kind : RecordKind) (share result : Remaining) (to : ℕ) (p q : SeatedPass) → old.kind ≡ kind → result ≡ with_left kind share to (new.dealt - to) → HasDealt allows t old new (next_of kind share) to p q → HasShareLeft allows p share → HasShareLeft allows q result
+shared allows t old new k share result to p q e is x has = subst (λ (l : Remaining). HasShareLeft allows q l) (sym is)
+    (subst (λ (k : RecordKind). HasShareLeft allows q (with_left k share to (new.dealt - to))) e (x.left share has (ap (λ (k : RecordKind). next_of k share) e)))

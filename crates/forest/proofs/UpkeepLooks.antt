@@ -13,7 +13,7 @@ use Rattle.forest.specs.LastingSlots.{slot_number}
 use Rattle.forest.specs.Ruled.{IsRuled}
 use Rattle.forest.specs.Seats.{StaysAtTable}
 use Rattle.forest.specs.UpkeepSteps.{HasGoneOnResting, RestsOn}
-use Rattle.forest.specs.UpkeepBook.{IsAtLasting, LearnsOf, Remembers, numbered, parts_of, record_numbered, slots_in}
+use Rattle.forest.specs.UpkeepBook.{IsAtLasting, LearnsOf, RemembersAfter, kind_number, parts_of, record_numbered, slots_in}
 use Rattle.forest.specs.declared.memory.PassMemory.{PassMemory}
 use Rattle.forest.specs.declared.memory.RecordNo.{RecordNo}
 use Rattle.forest.specs.declared.memory.RecordNo.TheVariants.{Node as NodeRecord, Scx as ScxRecord}
@@ -53,10 +53,10 @@ number_of (NodeRecord n) = n.0
 number_of (ScxRecord s) = s.0
 
 -- the word of a name is in the slot that it is in
-pub node_in_slot : (t : Lasting) (lay : Layout) (slot name : ℕ) (part : NodeWord) → t.table ≡ lay → slot_number t (numbered NodeKind name) ≡ numbered NodeKind slot → table_place t (node name part) ≡ place lay (node slot part)
+pub node_in_slot : (t : Lasting) (lay : Layout) (slot name : ℕ) (part : NodeWord) → t.table ≡ lay → slot_number t (kind_number NodeKind name) ≡ kind_number NodeKind slot → table_place t (node name part) ≡ place lay (node slot part)
 node_in_slot t lay slot name part same is = ap (λ k. place t.table (node k part)) (let e : name % t.node_turn ≡ slot = ap number_of is in e) ∙ ap (λ l. place l (node slot part)) same
 
-pub scx_in_slot : (t : Lasting) (lay : Layout) (slot name : ℕ) (part : ScxWord) → t.table ≡ lay → slot_number t (numbered ScxKind name) ≡ numbered ScxKind slot → table_place t (scx name part) ≡ place lay (scx slot part)
+pub scx_in_slot : (t : Lasting) (lay : Layout) (slot name : ℕ) (part : ScxWord) → t.table ≡ lay → slot_number t (kind_number ScxKind name) ≡ kind_number ScxKind slot → table_place t (scx name part) ≡ place lay (scx slot part)
 scx_in_slot t lay slot name part same is = ap (λ k. place t.table (scx k part)) (let e : name % t.scx_turn ≡ slot = ap number_of is in e) ∙ ap (λ l. place l (scx slot part)) same
 
 module _ {S : Type 0} (words : Words S) (lay : Layout) where
@@ -111,5 +111,5 @@ module _ (allows : Layout → History → ℕ → Type 0) (after : PassMemory �
       upkeep_allows allows words.table.shared.key turns.turns turns.comes_back words.table.shared.table_id.slots seat.id seat.me place at f (λ n w. LearnsWith allows (after p.memory n) seat.me.0 w) (LearnsOf allows after seat.me.0) there (λ n w x. (p, here.alone, x)) law
 
   -- and the pass remembers so much
-  pub has_learnt : (v w : SeatView) (n : ℕ) (so : PassMemory → List Row → PassMemory) → ((m : PassMemory) (rows : List Row) → after m n rows ≡ so m rows) → LearnsOf allows after v n w → RestsOn allows (Remembers so) v w
-  has_learnt v w n so same x = seat_learns allows (after x.0.memory n) (Remembers so) x.0 v w x.1 x.2 (λ q goes e. e ∙ same x.0.memory q.known)
+  pub has_learnt : (v w : SeatView) (n : ℕ) (so : PassMemory → List Row → PassMemory) → ((m : PassMemory) (rows : List Row) → after m n rows ≡ so m rows) → LearnsOf allows after v n w → RestsOn allows (RemembersAfter so) v w
+  has_learnt v w n so same x = seat_learns allows (after x.0.memory n) (RemembersAfter so) x.0 v w x.1 x.2 (λ q goes e. e ∙ same x.0.memory q.known)

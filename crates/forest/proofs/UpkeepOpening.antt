@@ -7,9 +7,9 @@ use Rattle.slots.proofs.Lemmas.{node_lap, scx_lap}
 use Rattle.forest.specs.LastingNotes.{IsAmongThese}
 use Rattle.forest.specs.LastingOpening.{first_memory, nodes_from, scx_from}
 use Rattle.forest.specs.LastingSlots.{slot_number}
-use Rattle.forest.specs.UpkeepBook.{IsBook, IsNameIn, IsSlotSo, count_own, dealt_of, first_own, numbered, record_numbered, turn_of}
+use Rattle.forest.specs.UpkeepBook.{IsBook, IsNameIn, IsSlotSo, count_own, dealt_of, first_own, kind_number, record_numbered, turn_of}
 use Rattle.forest.specs.declared.memory.PassMemory.{PassMemory}
-use Rattle.forest.specs.declared.upkeep.book.Known.TheVariants.{Used}
+use Rattle.forest.specs.declared.upkeep.book.SlotState.TheVariants.{Used}
 use Rattle.forest.specs.declared.upkeep.book.OwnSlot.{OwnSlot}
 use Rattle.forest.specs.declared.upkeep.book.OwnSlots.{OwnSlots}
 use Rattle.forest.specs.declared.upkeep.kind.RecordKind.{RecordKind}
@@ -27,19 +27,19 @@ among_last : {A : Type 0} (a : A) (xs ys : List A) → IsAmongThese a ys → IsA
 among_last a [] ys i = i
 among_last a (x ∷ xs) ys i = inr (among_last a xs ys i)
 
-node_among : (from count i : ℕ) → i < count → IsAmongThese (numbered Node (from + i)) (nodes_from from count)
+node_among : (from count i : ℕ) → i < count → IsAmongThese (kind_number Node (from + i)) (nodes_from from count)
 node_among from zero i less = absurd (omega (arith, less))
-node_among from (suc count) zero less = inl (ap (numbered Node) (omega arith))
-node_among from (suc count) (suc i) less = inr (subst (λ n. IsAmongThese (numbered Node n) (nodes_from (suc from) count)) (omega arith) (node_among (suc from) count i (omega (arith, less))))
+node_among from (suc count) zero less = inl (ap (kind_number Node) (omega arith))
+node_among from (suc count) (suc i) less = inr (subst (λ n. IsAmongThese (kind_number Node n) (nodes_from (suc from) count)) (omega arith) (node_among (suc from) count i (omega (arith, less))))
 
-scx_among : (from count i : ℕ) → i < count → IsAmongThese (numbered Scx (from + i)) (scx_from from count)
+scx_among : (from count i : ℕ) → i < count → IsAmongThese (kind_number Scx (from + i)) (scx_from from count)
 scx_among from zero i less = absurd (omega (arith, less))
-scx_among from (suc count) zero less = inl (ap (numbered Scx) (omega arith))
-scx_among from (suc count) (suc i) less = inr (subst (λ n. IsAmongThese (numbered Scx n) (scx_from (suc from) count)) (omega arith) (scx_among (suc from) count i (omega (arith, less))))
+scx_among from (suc count) zero less = inl (ap (kind_number Scx) (omega arith))
+scx_among from (suc count) (suc i) less = inr (subst (λ n. IsAmongThese (kind_number Scx n) (scx_from (suc from) count)) (omega arith) (scx_among (suc from) count i (omega (arith, less))))
 
-first_held : (t : Lasting) (o : ℕ) (kind : RecordKind) (i : ℕ) → i < count_own kind t.table → IsAmongThese (numbered kind (first_own kind t.lay o + i)) (first_memory t o).holds
-first_held t o Node i less = among_first (numbered Node (first_node t.lay o + i)) (nodes_from (first_node t.lay o) t.table.nodes) (scx_from (first_scx t.lay o) t.table.scx) (node_among (first_node t.lay o) t.table.nodes i less)
-first_held t o Scx i less = among_last (numbered Scx (first_scx t.lay o + i)) (nodes_from (first_node t.lay o) t.table.nodes) (scx_from (first_scx t.lay o) t.table.scx) (scx_among (first_scx t.lay o) t.table.scx i less)
+first_held : (t : Lasting) (o : ℕ) (kind : RecordKind) (i : ℕ) → i < count_own kind t.table → IsAmongThese (kind_number kind (first_own kind t.lay o + i)) (first_memory t o).holds
+first_held t o Node i less = among_first (kind_number Node (first_node t.lay o + i)) (nodes_from (first_node t.lay o) t.table.nodes) (scx_from (first_scx t.lay o) t.table.scx) (node_among (first_node t.lay o) t.table.nodes i less)
+first_held t o Scx i less = among_last (kind_number Scx (first_scx t.lay o + i)) (nodes_from (first_node t.lay o) t.table.nodes) (scx_from (first_scx t.lay o) t.table.scx) (scx_among (first_scx t.lay o) t.table.scx i less)
 
 first_dealt : (t : Lasting) (o : ℕ) (kind : RecordKind) → dealt_of kind (first_memory t o) ≡ first_own kind t.lay o + count_own kind t.table
 first_dealt t o Node = refl
@@ -54,13 +54,13 @@ scx_number n k e = cc
 -- each slot has its name of the first lap
 record IsFirstName (t : Lasting) (o : ℕ) (kind : RecordKind) (i : ℕ) : Type 0 where
   own : IsOwnRecord t.lay o (record_numbered kind (first_own kind t.lay o + i))
-  slot_is : slot_number t (numbered kind (first_own kind t.lay o + i)) ≡ numbered kind (first_own kind t.table o + i)
+  slot_is : slot_number t (kind_number kind (first_own kind t.lay o + i)) ≡ kind_number kind (first_own kind t.table o + i)
 
 first_names : (t : Lasting) (fit : IsLasting t) (o : ℕ) → o < t.lay.passes → (kind : RecordKind) (i : ℕ) → i < count_own kind t.table → IsFirstName t o kind i
 first_names t fit o is_pass Node i less = let x = node_lap t fit o 0 i is_pass (omega arith) less in let e : first_node t.lay o + (0 * t.node_turn + i) ≡ first_node t.lay o + i = omega arith in
-    record { own = subst (λ n. IsOwnRecord t.lay o (the_node n)) e x.0.0; slot_is = ap (numbered Node) (subst (λ n. n % t.node_turn ≡ first_node t.table o + i) e (node_number _ _ x.1)) }
+    record { own = subst (λ n. IsOwnRecord t.lay o (the_node n)) e x.0.0; slot_is = ap (kind_number Node) (subst (λ n. n % t.node_turn ≡ first_node t.table o + i) e (node_number _ _ x.1)) }
 first_names t fit o is_pass Scx i less = let x = scx_lap t fit o 0 i is_pass (omega arith) less in let e : first_scx t.lay o + (0 * t.scx_turn + i) ≡ first_scx t.lay o + i = omega arith in
-    record { own = subst (λ n. IsOwnRecord t.lay o (the_scx n)) e x.0.0; slot_is = ap (numbered Scx) (subst (λ n. n % t.scx_turn ≡ first_scx t.table o + i) e (scx_number _ _ x.1)) }
+    record { own = subst (λ n. IsOwnRecord t.lay o (the_scx n)) e x.0.0; slot_is = ap (kind_number Scx) (subst (λ n. n % t.scx_turn ≡ first_scx t.table o + i) e (scx_number _ _ x.1)) }
 
 -- so the book of the pass is right
 pub opens_book : (t : Lasting) (fit : IsLasting t) (p : SeatedPass) (since : List Row) (own : OwnSlots) → p.number.0 < t.lay.passes → p.memory ≡ first_memory t p.number.0 → own.first ≡ first_own own.kind t.table p.number.0 → own.turn ≡ turn_of own.kind t → own.end ≡ first_own own.kind t.lay p.number.0 + count_own own.kind t.lay → own.dealt ≡ first_own own.kind t.lay p.number.0 + count_own own.kind t.table → length own.slots.items ≡ count_own own.kind t.table
@@ -72,7 +72,7 @@ opens_book t fit p since own is_pass memory first turn end dealt count named = r
   where
     at : (j : ℕ) → j < count_own own.kind t.table → IsNameIn t p.number.0 p.memory own.kind (own.first + j) (first_own own.kind t.lay p.number.0 + j)
     at j less = let x = first_names t fit p.number.0 is_pass own.kind j less in record {
-      held = subst (λ (m : PassMemory). IsAmongThese (numbered own.kind (first_own own.kind t.lay p.number.0 + j)) m.holds) (sym memory) (first_held t p.number.0 own.kind j less);
+      held = subst (λ (m : PassMemory). IsAmongThese (kind_number own.kind (first_own own.kind t.lay p.number.0 + j)) m.holds) (sym memory) (first_held t p.number.0 own.kind j less);
       own = x.own;
-      slot_is = x.slot_is ∙ ap (λ n. numbered own.kind (n + j)) (sym first);
+      slot_is = x.slot_is ∙ ap (λ n. kind_number own.kind (n + j)) (sym first);
     }

@@ -11,13 +11,13 @@ use Rattle.planting.specs.Plantings.{PlantingView}
 use Rattle.slots.specs.Lasting.{Lasting}
 use Rattle.forest.specs.LastingNotes.{IsAmongThese, noted_as}
 use Rattle.forest.specs.TableRule.{ByOthers, history_of, past_of, seated_pass}
-use Rattle.forest.specs.UpkeepBook.{IsNameIn, KeepsOthers, KnowsNow, memory_with_note, numbered, record_numbered}
-use Rattle.forest.specs.UpkeepDeals.{HasLeft}
+use Rattle.forest.specs.UpkeepBook.{IsNameIn, KeepsOthers, KnowsNow, memory_with_note, kind_number, record_numbered}
+use Rattle.forest.specs.UpkeepDeals.{HasShareLeft}
 use Rattle.forest.specs.UpkeepScx.{HasLoaded, IsDoneNoted, IsDoneTo, IsRemoval, LearnsPart}
 use Rattle.forest.specs.UpkeepSteps.{HasGoneOnResting, RestsOn}
 use Rattle.forest.specs.declared.memory.NoteView.TheVariants.{DoneWith, MarkedOrDead}
 use Rattle.forest.specs.declared.memory.PassMemory.{PassMemory}
-use Rattle.forest.specs.declared.upkeep.book.Known.TheVariants.{Found, Used}
+use Rattle.forest.specs.declared.upkeep.book.SlotState.TheVariants.{Found, Used}
 use Rattle.forest.specs.declared.upkeep.kind.RecordKind.TheVariants.{Scx}
 use Rattle.forest.specs.declared.view.SeatedPass.{SeatedPass}
 use Rattle.forest.specs.declared.view.SeatView.{SeatView}
@@ -48,13 +48,13 @@ pub name_loaded : (allows : Layout → History → ℕ → Type 0) (t : Lasting)
 name_loaded allows t p q slot s n part goes x name = name_stays allows p q goes t Scx slot s (ap (λ (m : PassMemory). m.holds) x.same) name
 
 -- other passes leave the words of an own SCX-record as they are
-word_stays : (allows : Layout → History → ℕ → Type 0) (p q : SeatedPass) (left : Remaining) (s : ℕ) → HasGoneOnResting allows p q → HasLeft allows q left → IsOwnScx p.layout p.number.0 s → value (past_of q []) (scx s Plan) ≡ value (past_of p []) (scx s Plan)
+word_stays : (allows : Layout → History → ℕ → Type 0) (p q : SeatedPass) (left : Remaining) (s : ℕ) → HasGoneOnResting allows p q → HasShareLeft allows q left → IsOwnScx p.layout p.number.0 s → value (past_of q []) (scx s Plan) ≡ value (past_of p []) (scx s Plan)
 word_stays allows p q left s goes has own = ap (λ h. value h (scx s Plan)) run_is ∙ own_word_behind p.layout p.planting p.number.0 s Plan goes.others p.known (subst (Lawful p.layout) run_is (subst (λ (l : Layout). Lawful l (past_of q [])) goes.layout has.run.lawful)) goes.by_others own (λ u. scx_word_apart u s State Plan refl) (λ u. scx_word_apart u s AllFrozen Plan refl)
   where
     run_is : past_of q [] ≡ history_of p.planting (goes.others ++ p.known)
     run_is = ap (λ (l : PlantingView). history_of l q.known) goes.planting ∙ ap (history_of p.planting) goes.known
 
-pub plan_stays : (allows : Layout → History → ℕ → Type 0) (p q : SeatedPass) (left : Remaining) (s : ℕ) → HasGoneOnResting allows p q → HasLeft allows q left → IsOwnScx p.layout p.number.0 s → count (past_of q []) s ≡ count (past_of p []) s
+pub plan_stays : (allows : Layout → History → ℕ → Type 0) (p q : SeatedPass) (left : Remaining) (s : ℕ) → HasGoneOnResting allows p q → HasShareLeft allows q left → IsOwnScx p.layout p.number.0 s → count (past_of q []) s ≡ count (past_of p []) s
 plan_stays allows p q left s goes has own = ap count_of (word_stays allows p q left s goes has own)
 
 -- a committed SCX-record is done with what it has removed
@@ -82,7 +82,7 @@ module _ (allows : Layout → History → ℕ → Type 0) (t : Lasting) (slot s 
   kept_same p q e = subst (λ (m : PassMemory). KeepsOthers t (record_numbered Scx slot) p record q { memory = m }) (sym e) record { rests = rests_same p.memory; others = spares_same t (λ k. k ≡ record_numbered Scx slot) p.memory }
 
   -- at first its plan is loaded, and its state
-  pub none_done : (p q r : SeatedPass) (left : Remaining) → number ≡ count_of plan_is → HasGoneOnResting allows q r → HasLeft allows r left → IsOwnScx q.layout q.number.0 s → HasLoaded s Plan plan_is p q → HasLoaded s State state_is q r → IsDoneTo t slot s number state_is plan_is 0 p r
+  pub none_done : (p q r : SeatedPass) (left : Remaining) → number ≡ count_of plan_is → HasGoneOnResting allows q r → HasShareLeft allows r left → IsOwnScx q.layout q.number.0 s → HasLoaded s Plan plan_is p q → HasLoaded s State state_is q r → IsDoneTo t slot s number state_is plan_is 0 p r
   none_done p q r left e goes has own x y = record {
     keeps = kept_same p r (y.same ∙ x.same);
     holds = ap (λ (m : PassMemory). m.holds) (y.same ∙ x.same);
@@ -92,17 +92,17 @@ module _ (allows : Layout → History → ℕ → Type 0) (t : Lasting) (slot s 
   }
 
   -- then it is done with one node more
-  pub one_done : (j : ℕ) (p q r : SeatedPass) → IsDoneTo t slot s number state_is plan_is j p q → HasGoneOnResting allows q r → count (past_of r []) s ≡ count (past_of q []) s → r.memory ≡ memory_with_note q.memory (numbered Scx s) (DoneWith j) → IsDoneTo t slot s number state_is plan_is (j + 1) p r
+  pub one_done : (j : ℕ) (p q r : SeatedPass) → IsDoneTo t slot s number state_is plan_is j p q → HasGoneOnResting allows q r → count (past_of r []) s ≡ count (past_of q []) s → r.memory ≡ memory_with_note q.memory (kind_number Scx s) (DoneWith j) → IsDoneTo t slot s number state_is plan_is (j + 1) p r
   one_done j p q r x goes same e = subst (λ (m : PassMemory). count (past_of r []) s ≡ number → IsDoneTo t slot s number state_is plan_is (j + 1) p record r { memory = m }) (sym e) (λ nodes. record {
-    keeps = keeps_on t Scx slot p q record r { memory = memory_with_note q.memory (numbered Scx s) (DoneWith j) } x.keeps record { rests = record { rested = refl; away = refl; often = refl; polls = refl; nodes_to = refl; scx_to = refl }; others = spares_note t (λ k. k ≡ record_numbered Scx slot) q.memory (numbered Scx s) (DoneWith j) };
+    keeps = keeps_on t Scx slot p q record r { memory = memory_with_note q.memory (kind_number Scx s) (DoneWith j) } x.keeps record { rests = record { rested = refl; away = refl; often = refl; polls = refl; nodes_to = refl; scx_to = refl }; others = spares_note t (λ k. k ≡ record_numbered Scx slot) q.memory (kind_number Scx s) (DoneWith j) };
     holds = x.holds;
     nodes = nodes;
     done = λ i less. at i less (ℕ_discrete i j);
     removed = λ i z. subst (λ (l : Layout). WasDoneWith l (past_of r []) s i) (sym goes.layout) (done_since q.layout (past_of q []) (past_of r []) s i (known_on allows q r goes) (x.removed i z));
   }) (same ∙ x.nodes)
     where
-      at : (i : ℕ) → i < j + 1 → Dec (i ≡ j) → IsDoneNoted (memory_with_note q.memory (numbered Scx s) (DoneWith j)) s i
-      at i less (yes e) = inl (ap (λ k. noted_as (numbered Scx s) (DoneWith k)) e)
+      at : (i : ℕ) → i < j + 1 → Dec (i ≡ j) → IsDoneNoted (memory_with_note q.memory (kind_number Scx s) (DoneWith j)) s i
+      at i less (yes e) = inl (ap (λ k. noted_as (kind_number Scx s) (DoneWith k)) e)
       at i less (no d) = inr (x.done i (omega (arith, less, d)))
 
   -- or it is not
@@ -113,11 +113,11 @@ module _ (allows : Layout → History → ℕ → Type 0) (t : Lasting) (slot s 
   }
 
   -- all is done
-  pub over_now : (j : ℕ) (p q r : SeatedPass) → IsDoneTo t slot s number state_is plan_is j p q → HasGoneOnResting allows p r → r.memory ≡ memory_with_note q.memory (numbered Scx s) (MarkedOrDead r.known) → IsNameIn t p.number.0 p.memory Scx slot s → KnowsNow t Scx slot record { name = s; known = Found } p r
+  pub over_now : (j : ℕ) (p q r : SeatedPass) → IsDoneTo t slot s number state_is plan_is j p q → HasGoneOnResting allows p r → r.memory ≡ memory_with_note q.memory (kind_number Scx s) (MarkedOrDead r.known) → IsNameIn t p.number.0 p.memory Scx slot s → KnowsNow t Scx slot record { name = s; known = Found } p r
   over_now j p q r x goes e named = record {
-    keeps = keeps_on t Scx slot p q r x.keeps (subst (λ (m : PassMemory). KeepsOthers t (record_numbered Scx slot) q record r { memory = m }) (sym e) record { rests = record { rested = refl; away = refl; often = refl; polls = refl; nodes_to = refl; scx_to = refl }; others = spares_note t (λ k. k ≡ record_numbered Scx slot) q.memory (numbered Scx s) (MarkedOrDead r.known) });
+    keeps = keeps_on t Scx slot p q r x.keeps (subst (λ (m : PassMemory). KeepsOthers t (record_numbered Scx slot) q record r { memory = m }) (sym e) record { rests = record { rested = refl; away = refl; often = refl; polls = refl; nodes_to = refl; scx_to = refl }; others = spares_note t (λ k. k ≡ record_numbered Scx slot) q.memory (kind_number Scx s) (MarkedOrDead r.known) });
     so = (
       name_stays allows p r goes t Scx slot s (ap (λ (m : PassMemory). m.holds) e ∙ x.holds) named,
-      record { rows = r.known; noted = subst (λ (m : PassMemory). IsAmongThese (noted_as (numbered Scx s) (MarkedOrDead r.known)) m.notes) (sym e) (inl refl); before = ends_self (past_of r []) },
+      record { rows = r.known; noted = subst (λ (m : PassMemory). IsAmongThese (noted_as (kind_number Scx s) (MarkedOrDead r.known)) m.notes) (sym e) (inl refl); before = ends_self (past_of r []) },
     );
   }

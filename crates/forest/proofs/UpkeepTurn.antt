@@ -11,13 +11,13 @@ use Rattle.slots.specs.Lasting.{IsTaken, Lasting}
 use Rattle.forest.specs.LastingNotes.{IsAmongThese, noted_as, rested_poll}
 use Rattle.forest.specs.LastingSlots.{memory_cleared, memory_let_go}
 use Rattle.forest.specs.TableRule.{history_of, past_of}
-use Rattle.forest.specs.UpkeepBook.{HasEnded, HasFreed, IsKnownSo, IsNameIn, IsSlotSo, KeepsOthers, KeepsRests, KnowsNow, Remembers, memory_with_note, numbered, record_numbered}
+use Rattle.forest.specs.UpkeepBook.{PeriodHasEnded, HasFreed, IsKnownSo, IsNameIn, IsSlotSo, KeepsOthers, KeepsRests, KnowsNow, RemembersAfter, memory_with_note, kind_number, record_numbered}
 use Rattle.forest.specs.UpkeepSteps.{HasGoneOnResting, RestsOn}
 use Rattle.forest.specs.declared.memory.NoteView.{NoteView}
 use Rattle.forest.specs.declared.memory.NoteView.TheVariants.{DeadBy, MarkedOrDead, OutOfReach}
 use Rattle.forest.specs.declared.memory.PassMemory.{PassMemory}
-use Rattle.forest.specs.declared.upkeep.book.Known.{Known}
-use Rattle.forest.specs.declared.upkeep.book.Known.TheVariants.{Used, Found, Dying, Free}
+use Rattle.forest.specs.declared.upkeep.book.SlotState.{SlotState}
+use Rattle.forest.specs.declared.upkeep.book.SlotState.TheVariants.{Used, Found, Dying, Free}
 use Rattle.forest.specs.declared.upkeep.book.OwnSlot.{OwnSlot}
 use Rattle.forest.specs.declared.upkeep.kind.RecordKind.{RecordKind}
 use Rattle.forest.specs.declared.view.SeatedPass.{SeatedPass}
@@ -45,10 +45,10 @@ module _ (allows : Layout → History → ℕ → Type 0) where
     -- a name is in its slot as long as it is held there
     pub name_stays : (t : Lasting) (kind : RecordKind) (slot name : ℕ) → q.memory.holds ≡ p.memory.holds → IsNameIn t p.number.0 p.memory kind slot name → IsNameIn t q.number.0 q.memory kind slot name
     name_stays t kind slot name same x = subst (λ (k : PassNo). IsNameIn t k.0 q.memory kind slot name) (sym goes.number)
-        record { held = subst (λ l. IsAmongThese (numbered kind name) l) (sym same) x.held; own = x.own; slot_is = x.slot_is }
+        record { held = subst (λ l. IsAmongThese (kind_number kind name) l) (sym same) x.held; own = x.own; slot_is = x.slot_is }
 
     -- a period that has ended, still has
-    pub ended_on : (t : Lasting) (since : List Row) → KeepsRests p.memory q.memory → HasEnded t p since → HasEnded t q since
+    pub ended_on : (t : Lasting) (since : List Row) → KeepsRests p.memory q.memory → PeriodHasEnded t p since → PeriodHasEnded t q since
     ended_on t since rests x = record {
       seen = record {
         there = rests.away ∙ x.seen.there;
@@ -59,7 +59,7 @@ module _ (allows : Layout → History → ℕ → Type 0) where
     }
 
 -- what is known of a slot is known later
-pub known_later : (t : Lasting) (planting : PlantingView) (o : ℕ) (m : PassMemory) (since later : List Row) → Extends (history_of planting later) (history_of planting since) → (kind : RecordKind) (slot name : ℕ) (known : Known) → IsKnownSo t planting o m since kind slot name known → IsKnownSo t planting o m later kind slot name known
+pub known_later : (t : Lasting) (planting : PlantingView) (o : ℕ) (m : PassMemory) (since later : List Row) → Extends (history_of planting later) (history_of planting since) → (kind : RecordKind) (slot name : ℕ) (known : SlotState) → IsKnownSo t planting o m since kind slot name known → IsKnownSo t planting o m later kind slot name known
 known_later t planting o m since later on kind slot name Used x = x
 known_later t planting o m since later on kind slot name Found x = (x.0, let f = x.1 in record { rows = f.rows; noted = f.noted; before = ends_trans _ _ _ on f.before })
 known_later t planting o m since later on kind slot name Dying x = (x.0, let f = x.1 in record { rows = f.rows; noted = f.noted; before = ends_trans _ _ _ on f.before })
@@ -69,7 +69,7 @@ known_later t planting o m since later on kind slot name Free x = x
 
 module _ (t : Lasting) (kind : RecordKind) (slot : ℕ) where
   -- if nothing is done with it
-  pub nothing_done : (p : SeatedPass) (since : List Row) (x : OwnSlot) → HasEnded t p since → IsSlotSo t p since kind slot x → KnowsNow t kind slot x p p
+  pub nothing_done : (p : SeatedPass) (since : List Row) (x : OwnSlot) → PeriodHasEnded t p since → IsSlotSo t p since kind slot x → KnowsNow t kind slot x p p
   nothing_done p since x ended so = record {
     keeps = record { rests = rests_same p.memory; others = spares_same t (λ r. r ≡ record_numbered kind slot) p.memory };
     so = known_later t p.planting p.number.0 p.memory since p.known ended.known kind slot x.name x.known so;
@@ -81,46 +81,46 @@ module _ (t : Lasting) (kind : RecordKind) (slot : ℕ) where
 
   module _ (allows : Layout → History → ℕ → Type 0) (p q : SeatedPass) (goes : HasGoneOnResting allows p q) (name : ℕ) (x : IsNameIn t p.number.0 p.memory kind slot name) where
     -- if it was looked at, and is not marked
-    pub unmarked_now : Remembers (λ m rows. m) p q → KnowsNow t kind slot record { name = name; known = Used } p q
+    pub unmarked_now : RemembersAfter (λ m rows. m) p q → KnowsNow t kind slot record { name = name; known = Used } p q
     unmarked_now e = record {
       keeps = subst (λ (m : PassMemory). KeepsOthers t (record_numbered kind slot) p record q { memory = m }) (sym e) record { rests = rests_same p.memory; others = spares_same t (λ r. r ≡ record_numbered kind slot) p.memory };
       so = name_stays allows p q goes t kind slot name (ap (λ (m : PassMemory). m.holds) e) x;
     }
 
-    keeps_noted : (note : NoteView) → q.memory ≡ memory_with_note p.memory (numbered kind name) note → KeepsOthers t (record_numbered kind slot) p q
+    keeps_noted : (note : NoteView) → q.memory ≡ memory_with_note p.memory (kind_number kind name) note → KeepsOthers t (record_numbered kind slot) p q
     keeps_noted note e = subst (λ (m : PassMemory). KeepsOthers t (record_numbered kind slot) p record q { memory = m }) (sym e)
-        record { rests = record { rested = refl; away = refl; often = refl; polls = refl; nodes_to = refl; scx_to = refl }; others = spares_note t (λ r. r ≡ record_numbered kind slot) p.memory (numbered kind name) note }
+        record { rests = record { rested = refl; away = refl; often = refl; polls = refl; nodes_to = refl; scx_to = refl }; others = spares_note t (λ r. r ≡ record_numbered kind slot) p.memory (kind_number kind name) note }
 
-    now_noted : (note : NoteView) → q.memory ≡ memory_with_note p.memory (numbered kind name) note → IsAmongThese (noted_as (numbered kind name) note) q.memory.notes
-    now_noted note e = subst (λ (m : PassMemory). IsAmongThese (noted_as (numbered kind name) note) m.notes) (sym e) (inl refl)
+    now_noted : (note : NoteView) → q.memory ≡ memory_with_note p.memory (kind_number kind name) note → IsAmongThese (noted_as (kind_number kind name) note) q.memory.notes
+    now_noted note e = subst (λ (m : PassMemory). IsAmongThese (noted_as (kind_number kind name) note) m.notes) (sym e) (inl refl)
 
-    still_name : (note : NoteView) → q.memory ≡ memory_with_note p.memory (numbered kind name) note → IsNameIn t q.number.0 q.memory kind slot name
+    still_name : (note : NoteView) → q.memory ≡ memory_with_note p.memory (kind_number kind name) note → IsNameIn t q.number.0 q.memory kind slot name
     still_name note e = name_stays allows p q goes t kind slot name (ap (λ (m : PassMemory). m.holds) e) x
 
     -- if it is marked
-    pub marked_now : Remembers (λ m rows. memory_with_note m (numbered kind name) (MarkedOrDead rows)) p q → KnowsNow t kind slot record { name = name; known = Found } p q
+    pub marked_now : RemembersAfter (λ m rows. memory_with_note m (kind_number kind name) (MarkedOrDead rows)) p q → KnowsNow t kind slot record { name = name; known = Found } p q
     marked_now e = record {
       keeps = keeps_noted (MarkedOrDead q.known) e;
       so = (still_name (MarkedOrDead q.known) e, record { rows = q.known; noted = now_noted (MarkedOrDead q.known) e; before = ends_self (past_of q []) });
     }
 
     -- if it was found
-    pub dying_now : Remembers (λ m rows. memory_with_note m (numbered kind name) (DeadBy rows)) p q → KnowsNow t kind slot record { name = name; known = Dying } p q
+    pub dying_now : RemembersAfter (λ m rows. memory_with_note m (kind_number kind name) (DeadBy rows)) p q → KnowsNow t kind slot record { name = name; known = Dying } p q
     dying_now e = record {
       keeps = keeps_noted (DeadBy q.known) e;
       so = (still_name (DeadBy q.known) e, record { rows = q.known; noted = now_noted (DeadBy q.known) e; before = ends_self (past_of q []) });
     }
 
     -- if it was dying, it can be let go
-    pub gone_now : Remembers (λ m rows. memory_with_note m (numbered kind name) OutOfReach) p q → IsNameIn t q.number.0 q.memory kind slot name × IsAmongThese (noted_as (numbered kind name) OutOfReach) q.memory.notes × KeepsOthers t (record_numbered kind slot) p q
+    pub gone_now : RemembersAfter (λ m rows. memory_with_note m (kind_number kind name) OutOfReach) p q → IsNameIn t q.number.0 q.memory kind slot name × IsAmongThese (noted_as (kind_number kind name) OutOfReach) q.memory.notes × KeepsOthers t (record_numbered kind slot) p q
     gone_now e = (still_name OutOfReach e, now_noted OutOfReach e, keeps_noted OutOfReach e)
 
     -- if it was let go, it is empty
-    pub empty_now : Remembers (λ m rows. memory_let_go t m (numbered kind name)) p q → IsAmongThese (numbered kind slot) q.memory.empty × KeepsOthers t (record_numbered kind slot) p q
+    pub empty_now : RemembersAfter (λ m rows. memory_let_go t m (kind_number kind name)) p q → IsAmongThese (kind_number kind slot) q.memory.empty × KeepsOthers t (record_numbered kind slot) p q
     empty_now e = (
-      subst (λ (m : PassMemory). IsAmongThese (numbered kind slot) m.empty) (sym e) (inl (sym x.slot_is)),
+      subst (λ (m : PassMemory). IsAmongThese (kind_number kind slot) m.empty) (sym e) (inl (sym x.slot_is)),
       subst (λ (m : PassMemory). KeepsOthers t (record_numbered kind slot) p record q { memory = m }) (sym e)
-          record { rests = record { rested = refl; away = refl; often = refl; polls = refl; nodes_to = refl; scx_to = refl }; others = spares_let_go t p.memory (numbered kind name) (record_numbered kind slot) (slot_record t kind slot name x.slot_is) },
+          record { rests = record { rested = refl; away = refl; often = refl; polls = refl; nodes_to = refl; scx_to = refl }; others = spares_let_go t p.memory (kind_number kind name) (record_numbered kind slot) (slot_record t kind slot name x.slot_is) },
     )
 
 -- what is so of the one pass of a seat, is so of p if it is that
@@ -144,17 +144,17 @@ module _ (t : Lasting) (kind : RecordKind) (slot : ℕ) where
   -- so are those that are before this place
   pub record IsClearedTo (place : ℕ) (p q : SeatedPass) : Type 0 where
     pub keeps : KeepsOthers t (record_numbered kind slot) p q
-    pub empty : IsAmongThese (numbered kind slot) q.memory.empty
+    pub empty : IsAmongThese (kind_number kind slot) q.memory.empty
     pub zeros : (w : Word) → IsWord t.table w → record_of w ≡ record_numbered kind slot → offset w < place → IsAmongThese w q.memory.zeros
 
-  pub none_cleared : (p : SeatedPass) → IsAmongThese (numbered kind slot) p.memory.empty → IsClearedTo 0 p p
+  pub none_cleared : (p : SeatedPass) → IsAmongThese (kind_number kind slot) p.memory.empty → IsClearedTo 0 p p
   none_cleared p empty = record {
     keeps = record { rests = rests_same p.memory; others = spares_same t (λ r. r ≡ record_numbered kind slot) p.memory };
     empty = empty;
     zeros = λ w i e less. absurd (omega (arith, less));
   }
 
-  pub one_cleared : (place : ℕ) (p q r : SeatedPass) (word : Word) → ((other : Word) → IsWord t.table other → record_of other ≡ record_numbered kind slot → offset other ≡ place → other ≡ word) → IsClearedTo place p q → Remembers (λ m rows. memory_cleared m word) q r → IsClearedTo (place + 1) p r
+  pub one_cleared : (place : ℕ) (p q r : SeatedPass) (word : Word) → ((other : Word) → IsWord t.table other → record_of other ≡ record_numbered kind slot → offset other ≡ place → other ≡ word) → IsClearedTo place p q → RemembersAfter (λ m rows. memory_cleared m word) q r → IsClearedTo (place + 1) p r
   one_cleared place p q r word only x e = subst (λ (m : PassMemory). IsClearedTo (place + 1) p record r { memory = m }) (sym e) record {
     keeps = keeps_on p q record r { memory = memory_cleared q.memory word } x.keeps record { rests = record { rested = refl; away = refl; often = refl; polls = refl; nodes_to = refl; scx_to = refl }; others = spares_cleared t (λ r. r ≡ record_numbered kind slot) q.memory word };
     empty = x.empty;

@@ -8,8 +8,8 @@ use Rattle.planting.specs.Plantings.{PlantingView}
 use Rattle.resting.specs.Records.{Record}
 use Rattle.slots.specs.Lasting.{IsOwnRecord, Lasting}
 use Rattle.forest.specs.TableRule.{history_of, past_of}
-use Rattle.forest.specs.UpkeepBook.{AreAllOwn, AreSameSlots, AreSlotsSo, HasEnded, HasTakenBelow, HasTurned, IsBook, IsKnownSo, IsOfKind, IsSlotSo, KeepsRests, KnowsNow, SparesOthers, count_own, dealt_of, first_own, record_numbered, turn_of}
-use Rattle.forest.specs.UpkeepDeals.{HasLeft, next_of}
+use Rattle.forest.specs.UpkeepBook.{AreAllOwn, AreSameSlots, AreSlotsSo, PeriodHasEnded, HasTakenBelow, HasTurnedSlots, IsBook, IsKnownSo, IsOfRecordKind, IsSlotSo, KeepsRests, KnowsNow, SparesOthers, count_own, dealt_of, first_own, record_numbered, turn_of}
+use Rattle.forest.specs.UpkeepDeals.{HasShareLeft, next_of}
 use Rattle.forest.specs.UpkeepSteps.{HasGoneOnResting}
 use Rattle.forest.specs.declared.upkeep.book.OwnSlot.{OwnSlot}
 use Rattle.forest.specs.declared.upkeep.book.OwnSlots.{OwnSlots}
@@ -65,21 +65,21 @@ slot_kept t q r number planting Is spares kind slot apart since later on x so =
     (subst (λ (k : PassNo). IsKnownSo t q.planting k.0 r.memory later kind slot x.name x.known) (sym number)
     (known_kept t q.planting q.number.0 q.memory r.memory Is spares since later on kind slot x.name apart x.known so))
 
-pub is_of_kind : (kind : RecordKind) (n : ℕ) → IsOfKind kind (record_numbered kind n)
+pub is_of_kind : (kind : RecordKind) (n : ℕ) → IsOfRecordKind kind (record_numbered kind n)
 is_of_kind Node n = tt
 is_of_kind Scx n = tt
 
-pub other_kind : (kind other : RecordKind) (n : ℕ) → other ≢ kind → ¬ IsOfKind kind (record_numbered other n)
+pub other_kind : (kind other : RecordKind) (n : ℕ) → other ≢ kind → ¬ IsOfRecordKind kind (record_numbered other n)
 other_kind Node Node n d x = d refl
 other_kind Node Scx n d x = x
 other_kind Scx Node n d x = x
 other_kind Scx Scx n d x = d refl
 
 -- what is known of its slots of another kind stays so while something is done with those of one
-pub other_book : (t : Lasting) (q r : SeatedPass) → r.number ≡ q.number → r.planting ≡ q.planting → (kind : RecordKind) → SparesOthers t (IsOfKind kind) q.memory r.memory → (other : OwnSlots) (since : List Row) → other.kind ≢ kind → dealt_of other.kind r.memory ≡ dealt_of other.kind q.memory → IsBook t q since other → IsBook t r since other
+pub other_book : (t : Lasting) (q r : SeatedPass) → r.number ≡ q.number → r.planting ≡ q.planting → (kind : RecordKind) → SparesOthers t (IsOfRecordKind kind) q.memory r.memory → (other : OwnSlots) (since : List Row) → other.kind ≢ kind → dealt_of other.kind r.memory ≡ dealt_of other.kind q.memory → IsBook t q since other → IsBook t r since other
 other_book t q r number planting kind spares other since apart dealt book = record {
   all = own_on t q r other other record { kind = refl; first = refl; turn = refl; end = refl; dealt = refl; count = refl } number dealt book.all;
-  slots = λ i x from to is. slot_kept t q r number planting (IsOfKind kind) spares other.kind (other.first + i) (other_kind kind other.kind (other.first + i) apart) since since (ends_self (history_of q.planting since)) x (book.slots i x from to is);
+  slots = λ i x from to is. slot_kept t q r number planting (IsOfRecordKind kind) spares other.kind (other.first + i) (other_kind kind other.kind (other.first + i) apart) since since (ends_self (history_of q.planting since)) x (book.slots i x from to is);
 }
 
 -- each of them is a record of the pass's own
@@ -102,15 +102,15 @@ taken_on allows p q goes kind old_kind next same taken = subst (λ (k : RecordKi
 -- The slots before that one have been gone through, by which the pass p has become q.
 pub record TurnsTo (t : Lasting) (old own : OwnSlots) (i : ℕ) (p q : SeatedPass) : Type 0 where
   pub rests : KeepsRests p.memory q.memory
-  pub spares : SparesOthers t (IsOfKind old.kind) p.memory q.memory
-  pub turned : (since : List Row) → IsBook t p since old → HasEnded t p since → AreSlotsSo t q q.known own 0 i
-  pub waits : (since : List Row) → IsBook t p since old → HasEnded t p since → AreSlotsSo t q since own i (length old.slots.items)
+  pub spares : SparesOthers t (IsOfRecordKind old.kind) p.memory q.memory
+  pub turned : (since : List Row) → IsBook t p since old → PeriodHasEnded t p since → AreSlotsSo t q q.known own 0 i
+  pub waits : (since : List Row) → IsBook t p since old → PeriodHasEnded t p since → AreSlotsSo t q since own i (length old.slots.items)
 
 module _ (t : Lasting) (old : OwnSlots) where
   pub none_turned : (p : SeatedPass) → TurnsTo t old old 0 p p
   none_turned p = record {
     rests = rests_same p.memory;
-    spares = spares_same t (IsOfKind old.kind) p.memory;
+    spares = spares_same t (IsOfRecordKind old.kind) p.memory;
     turned = λ since book ended i x from to is. absurd (omega (arith, to));
     waits = λ since book ended. book.slots;
   }
@@ -136,21 +136,21 @@ module _ (t : Lasting) (old : OwnSlots) where
     pub one_turned : TurnsTo t old own i p q → TurnsTo t old new (i + 1) p r
     one_turned z = record {
       rests = rests_on p.memory q.memory r.memory z.rests knows.keeps.rests;
-      spares = spares_on t (IsOfKind old.kind) p.memory q.memory r.memory z.spares (spares_more t (λ k. k ≡ record_numbered own.kind (own.first + i)) (IsOfKind old.kind) q.memory r.memory
-          (λ k e. subst (IsOfKind old.kind) (sym e) (subst (λ (l : RecordKind). IsOfKind old.kind (record_numbered l (own.first + i))) (sym is_old) (is_of_kind old.kind (own.first + i)))) knows.keeps.others);
+      spares = spares_on t (IsOfRecordKind old.kind) p.memory q.memory r.memory z.spares (spares_more t (λ k. k ≡ record_numbered own.kind (own.first + i)) (IsOfRecordKind old.kind) q.memory r.memory
+          (λ k e. subst (IsOfRecordKind old.kind) (sym e) (subst (λ (l : RecordKind). IsOfRecordKind old.kind (record_numbered l (own.first + i))) (sym is_old) (is_of_kind old.kind (own.first + i)))) knows.keeps.others);
       turned = λ since book ended j y from to there. as_new j r.known y (turned_at j y to there (λ less. z.turned since book ended j y from less) (ℕ_discrete j i));
       waits = λ since book ended j y from to there. as_new j since y (beside since since (ends_self (history_of q.planting since)) j y (λ e. omega (arith, from, e)) there (z.waits since book ended j y (omega (arith, from)) to));
     }
 
   -- all
-  pub all_turned : (own : OwnSlots) (i : ℕ) (p q : SeatedPass) (since : List Row) → AreSameSlots old own → i ≡ length old.slots.items → q.number ≡ p.number → q.planting ≡ p.planting → IsBook t p since old → HasEnded t p since → TurnsTo t old own i p q → HasTurned t own p q
+  pub all_turned : (own : OwnSlots) (i : ℕ) (p q : SeatedPass) (since : List Row) → AreSameSlots old own → i ≡ length old.slots.items → q.number ≡ p.number → q.planting ≡ p.planting → IsBook t p since old → PeriodHasEnded t p since → TurnsTo t old own i p q → HasTurnedSlots t own p q
   all_turned own i p q since same all number planting book ended z = record {
     rests = z.rests;
     book = record {
       all = own_on t p q old own same number (dealt_same own.kind) book.all;
       slots = λ j x from to there. z.turned since book ended j x from (subst (λ n. j < n) (same.count ∙ sym all) to) there;
     };
-    others = λ other before apart. other_book t p q number planting own.kind (subst (λ (k : RecordKind). SparesOthers t (IsOfKind k) p.memory q.memory) (sym same.kind) z.spares) other before apart (dealt_same other.kind);
+    others = λ other before apart. other_book t p q number planting own.kind (subst (λ (k : RecordKind). SparesOthers t (IsOfRecordKind k) p.memory q.memory) (sym same.kind) z.spares) other before apart (dealt_same other.kind);
   }
     where
       dealt_same : (k : RecordKind) → dealt_of k q.memory ≡ dealt_of k p.memory
@@ -167,6 +167,6 @@ book_later t p since later own on book = record {
 }
 
 -- so it has taken what its share gave
-pub taken_by_share : (allows : Layout → History → ℕ → Type 0) (p : SeatedPass) (left : Remaining) (kind : RecordKind) → HasLeft allows p left → HasTakenBelow p kind (next_of kind left)
+pub taken_by_share : (allows : Layout → History → ℕ → Type 0) (p : SeatedPass) (left : Remaining) (kind : RecordKind) → HasShareLeft allows p left → HasTakenBelow p kind (next_of kind left)
 taken_by_share allows p left Node has n own less = has.share.taken_nodes n own less
 taken_by_share allows p left Scx has n own less = has.share.taken_scx n own less

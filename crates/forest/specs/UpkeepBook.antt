@@ -20,8 +20,8 @@ use Rattle.forest.specs.declared.memory.RecordNo.{RecordNo}
 use Rattle.forest.specs.declared.memory.RecordNo.TheVariants.{Node as NodeRecord, Scx as ScxRecord}
 use Rattle.forest.specs.declared.upkeep.kind.RecordKind.{RecordKind}
 use Rattle.forest.specs.declared.upkeep.kind.RecordKind.TheVariants.{Node, Scx}
-use Rattle.forest.specs.declared.upkeep.book.Known.{Known}
-use Rattle.forest.specs.declared.upkeep.book.Known.TheVariants.{Used, Found, Dying, Free}
+use Rattle.forest.specs.declared.upkeep.book.SlotState.{SlotState}
+use Rattle.forest.specs.declared.upkeep.book.SlotState.TheVariants.{Used, Found, Dying, Free}
 use Rattle.forest.specs.declared.upkeep.book.Book.{Book}
 use Rattle.forest.specs.declared.upkeep.book.OwnSlot.{OwnSlot}
 use Rattle.forest.specs.declared.upkeep.book.OwnSlots.{OwnSlots}
@@ -32,18 +32,18 @@ use Rattle.forest.specs.declared.words.Words.{Words}
 -- Records by kind and number
 
 -- the number of a record of this kind: a name, or that of a slot
-abbrev pub numbered : RecordKind → ℕ → RecordNo
-numbered Node n = NodeRecord record { 0 = n }
-numbered Scx n = ScxRecord record { 0 = n }
+abbrev pub kind_number : RecordKind → ℕ → RecordNo
+kind_number Node n = NodeRecord record { 0 = n }
+kind_number Scx n = ScxRecord record { 0 = n }
 
 abbrev pub record_numbered : RecordKind → ℕ → Record
-record_numbered kind n = record_at (numbered kind n)
+record_numbered kind n = record_at (kind_number kind n)
 
 -- the record is of this kind
-abbrev pub IsOfKind : RecordKind → Record → Type 0
-IsOfKind Node (the_node n) = Unit {0}
-IsOfKind Scx (the_scx s) = Unit {0}
-IsOfKind _ _ = ⊥
+abbrev pub IsOfRecordKind : RecordKind → Record → Type 0
+IsOfRecordKind Node (the_node n) = Unit {0}
+IsOfRecordKind Scx (the_scx s) = Unit {0}
+IsOfRecordKind _ _ = ⊥
 
 -- how many words such a record has
 abbrev pub parts_of : RecordKind → ℕ
@@ -97,8 +97,8 @@ abbrev pub LearnsOf : (Layout → History → ℕ → Type 0) → (after : PassM
 LearnsOf allows after v n w = (p : SeatedPass) × (v.passes ≡ p ∷ []) × LearnsWith allows (after p.memory n) v w
 
 -- the pass p, which is q now, remembers what `after` makes of what it did and of the run
-abbrev pub Remembers : (after : PassMemory → List Row → PassMemory) → SeatedPass → SeatedPass → Type 0
-Remembers after p q = q.memory ≡ after p.memory q.known
+abbrev pub RemembersAfter : (after : PassMemory → List Row → PassMemory) → SeatedPass → SeatedPass → Type 0
+RemembersAfter after p q = q.memory ≡ after p.memory q.known
 
 -- what is remembered with one note more
 abbrev pub memory_with_note : PassMemory → RecordNo → NoteView → PassMemory
@@ -116,30 +116,30 @@ pub record SparesOthers (t : Lasting) (Is : Record → Type 0) (m n : PassMemory
 
 -- the slot holds the name, which is the pass's own
 pub record IsNameIn (t : Lasting) (o : ℕ) (m : PassMemory) (kind : RecordKind) (slot name : ℕ) : Type 0 where
-  pub held : IsAmongThese (numbered kind name) m.holds
+  pub held : IsAmongThese (kind_number kind name) m.holds
   pub own : IsOwnRecord t.lay o (record_numbered kind name)
-  pub slot_is : slot_number t (numbered kind name) ≡ numbered kind slot
+  pub slot_is : slot_number t (kind_number kind name) ≡ kind_number kind slot
 
 -- it was marked or dead at a moment that is not behind this one
 pub record WasFound (planting : PlantingView) (m : PassMemory) (since : List Row) (kind : RecordKind) (name : ℕ) : Type 0 where
   pub rows : List Row
-  pub noted : IsAmongThese (noted_as (numbered kind name) (MarkedOrDead rows)) m.notes
+  pub noted : IsAmongThese (noted_as (kind_number kind name) (MarkedOrDead rows)) m.notes
   pub before : Extends (history_of planting since) (history_of planting rows)
 
 -- it was dead by a moment that is not behind this one
 pub record WasDying (planting : PlantingView) (m : PassMemory) (since : List Row) (kind : RecordKind) (name : ℕ) : Type 0 where
   pub rows : List Row
-  pub noted : IsAmongThese (noted_as (numbered kind name) (DeadBy rows)) m.notes
+  pub noted : IsAmongThese (noted_as (kind_number kind name) (DeadBy rows)) m.notes
   pub before : Extends (history_of planting since) (history_of planting rows)
 
 -- the slot holds nothing, and all of its words are 0
 pub record IsCleanSlot (t : Lasting) (m : PassMemory) (kind : RecordKind) (slot : ℕ) : Type 0 where
-  pub empty : IsAmongThese (numbered kind slot) m.empty
+  pub empty : IsAmongThese (kind_number kind slot) m.empty
   pub zeros : (w : Word) → IsWord t.table w → record_of w ≡ record_numbered kind slot → IsAmongThese w m.zeros
 
 -- What is known of the slot is so: what was found, or is dying, was so by the moment `since`, at
 -- which a period began.
-abbrev pub IsKnownSo : Lasting → PlantingView → (o : ℕ) → PassMemory → (since : List Row) → RecordKind → (slot name : ℕ) → Known → Type 0
+abbrev pub IsKnownSo : Lasting → PlantingView → (o : ℕ) → PassMemory → (since : List Row) → RecordKind → (slot name : ℕ) → SlotState → Type 0
 IsKnownSo t planting o m since kind slot name Used = IsNameIn t o m kind slot name
 IsKnownSo t planting o m since kind slot name Found = IsNameIn t o m kind slot name × WasFound planting m since kind name
 IsKnownSo t planting o m since kind slot name Dying = IsNameIn t o m kind slot name × WasDying planting m since kind name
@@ -181,7 +181,7 @@ abbrev pub HasTakenBelow : SeatedPass → RecordKind → (next : ℕ) → Type 0
 HasTakenBelow p kind next = (n : ℕ) → IsOwnRecord p.layout p.number.0 (record_numbered kind n) → n < next → IsTaken (past_of p []) (record_numbered kind n)
 
 -- A period has ended that began after the rows `since`.
-pub record HasEnded (t : Lasting) (p : SeatedPass) (since : List Row) : Type 0 where
+pub record PeriodHasEnded (t : Lasting) (p : SeatedPass) (since : List Row) : Type 0 where
   pub seen : HasSeenAllRest t.lay p since
   pub known : Extends (past_of p []) (history_of p.planting since)
 
@@ -201,7 +201,7 @@ pub record HasFreed (t : Lasting) (kind : RecordKind) (slot : ℕ) (p q : Seated
   pub clean : IsCleanSlot t q.memory kind slot
 
 -- the pass p, which is q now, has a book that is right, and that of its other records still is
-pub record HasTurned (t : Lasting) (own : OwnSlots) (p q : SeatedPass) : Type 0 where
+pub record HasTurnedSlots (t : Lasting) (own : OwnSlots) (p q : SeatedPass) : Type 0 where
   pub rests : KeepsRests p.memory q.memory
   pub book : IsBook t q q.known own
   pub others : (other : OwnSlots) (since : List Row) → other.kind ≢ own.kind → IsBook t p since other → IsBook t q since other

@@ -11,10 +11,10 @@ use Rattle.forest.specs.LastingRule.{GoesOnWith}
 use Rattle.forest.specs.LastingSlots.{slot_number}
 use Rattle.forest.specs.Passes.{Each}
 use Rattle.forest.specs.TableRule.{past_of}
-use Rattle.forest.specs.UpkeepBook.{IsBook, IsCleanSlot, dealt_of, numbered}
+use Rattle.forest.specs.UpkeepBook.{IsBook, IsCleanSlot, dealt_of, kind_number}
 use Rattle.forest.specs.declared.memory.PassMemory.{PassMemory}
 use Rattle.forest.specs.declared.memory.RecordNo.{RecordNo}
-use Rattle.forest.specs.declared.upkeep.book.Known.TheVariants.{Free, Used}
+use Rattle.forest.specs.declared.upkeep.book.SlotState.TheVariants.{Free, Used}
 use Rattle.forest.specs.declared.upkeep.book.OwnSlot.{OwnSlot}
 use Rattle.forest.specs.declared.upkeep.book.OwnSlots.{OwnSlots}
 use Rattle.forest.specs.declared.upkeep.kind.RecordKind.{RecordKind}
@@ -44,9 +44,9 @@ abbrev pub next_of : RecordKind → Remaining → ℕ
 next_of Node left = left.next_node
 next_of Scx left = left.next_scx
 
-abbrev pub left_of : RecordKind → Remaining → ℕ
-left_of Node left = left.nodes
-left_of Scx left = left.scx
+abbrev pub left_of_kind : RecordKind → Remaining → ℕ
+left_of_kind Node left = left.nodes
+left_of_kind Scx left = left.scx
 
 -- the share with so many left from that name on
 abbrev pub with_left : RecordKind → Remaining → (next count : ℕ) → Remaining
@@ -57,7 +57,7 @@ with_left Scx left next count = record left { next_scx = next; scx = count }
 
 -- The pass is there and between two calls, the run that it knows is lawful, and this is left of its
 -- share.
-pub record HasLeft (allows : Layout → History → ℕ → Type 0) (p : SeatedPass) (left : Remaining) : Type 0 where
+pub record HasShareLeft (allows : Layout → History → ℕ → Type 0) (p : SeatedPass) (left : Remaining) : Type 0 where
   pub is_pass : p.number.0 < p.layout.passes
   pub run : IsRun allows p.layout (past_of p [])
   pub there : p.memory.away ≡ false
@@ -67,7 +67,7 @@ pub record HasLeft (allows : Layout → History → ℕ → Type 0) (p : SeatedP
 -- The slot may get the name that is so many behind those that are dealt.
 pub record MayGet (t : Lasting) (p : SeatedPass) (kind : RecordKind) (slot count : ℕ) : Type 0 where
   pub own : IsOwnName t p.number.0 (record_at (ahead kind p.memory count))
-  pub slot_is : slot_number t (ahead kind p.memory count) ≡ numbered kind slot
+  pub slot_is : slot_number t (ahead kind p.memory count) ≡ kind_number kind slot
   pub clean : IsCleanSlot t p.memory kind slot
 
 -- the row is one of another pass, or one of no call, by which the pass passes over a name
@@ -95,13 +95,13 @@ pub record DealsOn (so : SeatedPass → SeatedPass → Type 0) (v w : SeatView) 
 -- The only pass of a seat has come to know the run, and has passed over so many names, and the slot
 -- holds the next.
 abbrev pub LearnsPast : (Layout → History → ℕ → Type 0) → RecordKind → (slot count : ℕ) → SeatView → SeatView → Type 0
-LearnsPast allows kind slot count v w = (p : SeatedPass) × (v.passes ≡ p ∷ []) × GoesOnWith allows (past_names kind p.number.0 (dealt_of kind p.memory) count) (memory_given kind p.memory count (numbered kind slot)) v w
+LearnsPast allows kind slot count v w = (p : SeatedPass) × (v.passes ≡ p ∷ []) × GoesOnWith allows (past_names kind p.number.0 (dealt_of kind p.memory) count) (memory_given kind p.memory count (kind_number kind slot)) v w
 
 -- The pass p, which is q now, had taken all names that were dealt, has passed over so many, and the
 -- slot holds the next, which alone is left of its share.
 pub record HasPassedTo (allows : Layout → History → ℕ → Type 0) (t : Lasting) (kind : RecordKind) (slot count : ℕ) (p q : SeatedPass) : Type 0 where
-  pub memory : q.memory ≡ memory_given kind p.memory count (numbered kind slot) q.known
-  pub left : (left : Remaining) → HasLeft allows p left → next_of kind left ≡ dealt_of kind p.memory → IsOwnName t p.number.0 (record_at (ahead kind p.memory count)) → p.layout ≡ t.lay → HasLeft allows q (with_left kind left (dealt_of kind p.memory + count) 1)
+  pub memory : q.memory ≡ memory_given kind p.memory count (kind_number kind slot) q.known
+  pub left : (left : Remaining) → HasShareLeft allows p left → next_of kind left ≡ dealt_of kind p.memory → IsOwnName t p.number.0 (record_at (ahead kind p.memory count)) → p.layout ≡ t.lay → HasShareLeft allows q (with_left kind left (dealt_of kind p.memory + count) 1)
 
 -- Books
 
@@ -139,10 +139,10 @@ pub record HasDealt (allows : Layout → History → ℕ → Type 0) (t : Lastin
   pub keeps : KeepsPolls old.kind p.memory q.memory
   pub book : (since : List Row) → IsBook t p since old → IsBook t q since new
   pub others : (other : OwnSlots) (since : List Row) → other.kind ≢ old.kind → IsBook t p since other → IsBook t q since other
-  pub left : (left : Remaining) → HasLeft allows p left → next_of old.kind left ≡ from → HasLeft allows q (with_left old.kind left to (new.dealt - to))
+  pub left : (left : Remaining) → HasShareLeft allows p left → next_of old.kind left ≡ from → HasShareLeft allows q (with_left old.kind left to (new.dealt - to))
 
 -- of this kind the share has left what is dealt behind its next name, and no more than there are
 -- slots
 pub record IsShareOf (own : OwnSlots) (left : Remaining) : Type 0 where
-  pub dealt : own.dealt ≡ next_of own.kind left + left_of own.kind left
-  pub few : left_of own.kind left ≤ length own.slots.items
+  pub dealt : own.dealt ≡ next_of own.kind left + left_of_kind own.kind left
+  pub few : left_of_kind own.kind left ≤ length own.slots.items

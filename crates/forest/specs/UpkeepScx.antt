@@ -7,7 +7,7 @@ use Rattle.slots.specs.Lasting.{Lasting}
 use Rattle.forest.specs.LastingNotes.{IsAmongThese, noted_as}
 use Rattle.forest.specs.LastingRule.{LoadsWord}
 use Rattle.forest.specs.TableRule.{past_of}
-use Rattle.forest.specs.UpkeepBook.{KeepsOthers, numbered, record_numbered}
+use Rattle.forest.specs.UpkeepBook.{KeepsOthers, kind_number, record_numbered}
 use Rattle.forest.specs.declared.memory.NoteView.TheVariants.{DoneWith}
 use Rattle.forest.specs.declared.memory.PassMemory.{PassMemory}
 use Rattle.forest.specs.declared.upkeep.kind.RecordKind.TheVariants.{Scx}
@@ -25,7 +25,7 @@ pub record HasLoaded (s : ℕ) (part : ScxWord) (n : ℕ) (p q : SeatedPass) : T
 
 -- it is noted that the SCX-record was done with its node of this place
 abbrev pub IsDoneNoted : PassMemory → (s j : ℕ) → Type 0
-IsDoneNoted m s j = IsAmongThese (noted_as (numbered Scx s) (DoneWith j)) m.notes
+IsDoneNoted m s j = IsAmongThese (noted_as (kind_number Scx s) (DoneWith j)) m.notes
 
 -- it is committed, by its state, and finalizes the node of this place, by its plan
 abbrev pub IsRemoval : (state plan i : ℕ) → Type 0

@@ -5,7 +5,7 @@ use crate::upkeep::kind::RecordKind;
 
 /// What is known of a slot.
 #[derive(Clone, Copy, Debug, PartialEq, Eq)]
-pub(crate) enum Known {
+pub(crate) enum SlotState {
     /// Its record is in use, or was not looked at since.
     Used,
     /// Its record was marked or dead at some moment.
@@ -20,7 +20,7 @@ pub(crate) enum Known {
 #[derive(Clone, Copy, Debug)]
 pub(crate) struct OwnSlot {
     pub(crate) name: u64,
-    pub(crate) known: Known,
+    pub(crate) known: SlotState,
 }
 
 /// The slots of a pass, of one kind, from the first one on, and which names they get. They are made

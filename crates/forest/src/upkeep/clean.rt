@@ -10,7 +10,7 @@ ghost use Rattle.forest.specs.LastingSlots.{memory_let_go, memory_cleared};
 ghost use Rattle.forest.specs.Seats.{StaysAtTable};
 ghost use Rattle.forest.specs.TableRule.{past_of};
 ghost use Rattle.forest.specs.UpkeepSteps.{RestsOn};
-ghost use Rattle.forest.specs.UpkeepBook.{HasFreed, IsAtLasting, Remembers, numbered, parts_of, record_numbered, slots_in};
+ghost use Rattle.forest.specs.UpkeepBook.{HasFreed, IsAtLasting, RemembersAfter, kind_number, parts_of, record_numbered, slots_in};
 ghost use Rattle.forest.specs.declared.memory.NoteView.{NoteView};
 ghost use Rattle.forest.specs.declared.view.SeatedPass.{SeatedPass};
 
@@ -33,12 +33,12 @@ pub(crate) fn let_go<S: Shape>(
 )
     requires { (p : SeatedPass) × IsAtLasting words.now layout.now seat.old p
         × (at < table_size layout.now)
-        × IsAmongThese (numbered name.kind name.number) p.memory.holds
-        × IsAmongThese (noted_as (numbered name.kind name.number) NoteView.OutOfReach) p.memory.notes
+        × IsAmongThese (kind_number name.kind name.number) p.memory.holds
+        × IsAmongThese (noted_as (kind_number name.kind name.number) NoteView.OutOfReach) p.memory.notes
         × IsTaken (past_of p []) (record_numbered name.kind name.number) }
     ensures table { StaysAtTable seat.old seat.new }
     ensures looked { RestsOn S.allows
-        (Remembers (λ m rows. memory_let_go (slots_in words.now) m (numbered name.kind name.number)))
+        (RemembersAfter (λ m rows. memory_let_go (slots_in words.now) m (kind_number name.kind name.number)))
         seat.old.me.0 seat.new.me.0 }
 {
     slots_last::<S>();
@@ -57,10 +57,10 @@ fn clear<S: Shape>(
     requires place { place < parts_of kind }
     requires empty { (p : SeatedPass) × IsAtLasting words.now layout.now seat.old p
         × IsOwnRecord layout.now p.number.0 (record_numbered kind slot)
-        × IsAmongThese (numbered kind slot) p.memory.empty }
+        × IsAmongThese (kind_number kind slot) p.memory.empty }
     ensures table { StaysAtTable seat.old seat.new }
     ensures cleared { (word : Word)
-        × RestsOn S.allows (Remembers (λ m rows. memory_cleared m word)) seat.old.me.0 seat.new.me.0
+        × RestsOn S.allows (RemembersAfter (λ m rows. memory_cleared m word)) seat.old.me.0 seat.new.me.0
         × (record_of word ≡ record_numbered kind slot)
         × ((other : Word) → IsWord layout.now other → record_of other ≡ record_numbered kind slot
         → offset other ≡ place → other ≡ word) }
@@ -81,7 +81,7 @@ pub(crate) fn clean<S: Shape>(
 )
     requires { (p : SeatedPass) × IsAtLasting words.now layout.now seat.old p
         × IsOwnRecord layout.now p.number.0 (record_numbered kind slot)
-        × IsAmongThese (numbered kind slot) p.memory.empty }
+        × IsAmongThese (kind_number kind slot) p.memory.empty }
     ensures table { StaysAtTable seat.old seat.new }
     ensures cleaned { RestsOn S.allows (HasFreed (slots_in words.now) kind slot)
         seat.old.me.0 seat.new.me.0 }

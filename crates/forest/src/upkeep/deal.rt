@@ -4,12 +4,12 @@ ghost use Rattle.arena.specs.Share.{Remaining};
 ghost use Rattle.arena.specs.declared.step.Row.{Row};
 ghost use Rattle.forest.specs.Seats.{StaysAtTable};
 ghost use Rattle.forest.specs.UpkeepBook.{IsAtLasting, IsBook, slots_in};
-ghost use Rattle.forest.specs.UpkeepDeals.{AreSlotsStill, DealsOn, HasDealt, HasLeft, HasNameFor, IsFreeAt, IsNameAt, next_of};
+ghost use Rattle.forest.specs.UpkeepDeals.{AreSlotsStill, DealsOn, HasDealt, HasShareLeft, HasNameFor, IsFreeAt, IsNameAt, next_of};
 ghost use Rattle.forest.specs.UpkeepSteps.{RestsOn};
-ghost use Rattle.forest.specs.declared.upkeep.book.Known.{Known};
+ghost use Rattle.forest.specs.declared.upkeep.book.SlotState.{SlotState};
 ghost use Rattle.forest.specs.declared.view.SeatedPass.{SeatedPass};
 
-use crate::upkeep::book::{Known, OwnSlot, OwnSlots};
+use crate::upkeep::book::{OwnSlot, OwnSlots, SlotState};
 use crate::upkeep::clean::clean;
 use crate::upkeep::kind::RecordName;
 use crate::upkeep::names::{Given, give_back, give_next, pass_to};
@@ -26,7 +26,7 @@ impl OwnSlots {
         ensures { IsTrue result → IsFreeAt self.now i }
     {
         match self.slots[i].known {
-            Known::Free => true,
+            SlotState::Free => true,
             _ => false,
         }
     }
@@ -60,11 +60,11 @@ impl OwnSlots {
         ensures still { AreSlotsStill self.old self.new }
         ensures dealt { self.new.dealt ≡ name + 1 }
         ensures slots { self.new.slots.items
-            ≡ set self.old.slots.items i record { name = name; known = Known.Used } }
+            ≡ set self.old.slots.items i record { name = name; known = SlotState.Used } }
     {
         self.slots[i] = OwnSlot {
             name,
-            known: Known::Used,
+            known: SlotState::Used,
         };
         self.dealt = name + 1;
     }
@@ -81,7 +81,7 @@ fn put_first<S: Shape>(
 )
     requires slot { IsFreeAt own.old i × HasNameFor own.old i count }
     requires pass { (p : SeatedPass) × (left : Remaining) × (since : List Row)
-        × IsAtLasting words.now layout.now seat.old p × HasLeft S.allows p left
+        × IsAtLasting words.now layout.now seat.old p × HasShareLeft S.allows p left
         × (next_of own.old.kind left ≡ own.old.dealt) × IsBook (slots_in words.now) p since own.old }
     ensures table { StaysAtTable seat.old seat.new }
     ensures still { AreSlotsStill own.old own.new }
@@ -113,7 +113,7 @@ fn put_next<S: Shape>(
     requires slot { IsFreeAt own.old i × HasNameFor own.old i 0 }
     requires next { next ≤ own.old.dealt }
     requires pass { (p : SeatedPass) × (left : Remaining) × (since : List Row)
-        × IsAtLasting words.now layout.now seat.old p × HasLeft S.allows p left
+        × IsAtLasting words.now layout.now seat.old p × HasShareLeft S.allows p left
         × (next_of own.old.kind left ≡ next) × IsBook (slots_in words.now) p since own.old }
     ensures table { StaysAtTable seat.old seat.new }
     ensures still { AreSlotsStill own.old own.new }
@@ -141,7 +141,7 @@ impl OwnSlots {
         match self.slots.as_slice().get(i)? {
             OwnSlot {
                 name: held,
-                known: Known::Used,
+                known: SlotState::Used,
             } if *held == name => Some(i),
             _ => None,
         }
@@ -154,11 +154,11 @@ impl OwnSlots {
         ensures still { AreSlotsStill self.old self.new }
         ensures dealt { self.new.dealt ≡ name }
         ensures slots { self.new.slots.items
-            ≡ set self.old.slots.items i record { name = name; known = Known.Free } }
+            ≡ set self.old.slots.items i record { name = name; known = SlotState.Free } }
     {
         self.slots[i] = OwnSlot {
             name,
-            known: Known::Free,
+            known: SlotState::Free,
         };
         self.dealt = name;
     }
@@ -175,7 +175,7 @@ fn take_back<S: Shape>(
 ) -> bool
     requires next { next < own.old.dealt }
     requires pass { (p : SeatedPass) × (left : Remaining) × (since : List Row)
-        × IsAtLasting words.now layout.now seat.old p × HasLeft S.allows p left
+        × IsAtLasting words.now layout.now seat.old p × HasShareLeft S.allows p left
         × (next_of own.old.kind left ≡ next) × IsBook (slots_in words.now) p since own.old }
     ensures table { StaysAtTable seat.old seat.new }
     ensures still { AreSlotsStill own.old own.new }
@@ -209,7 +209,7 @@ fn free_last<S: Shape>(
     requires name { name + 1 ≡ own.old.dealt }
     requires slot { IsNameAt own.old name i }
     requires pass { (p : SeatedPass) × (left : Remaining) × (since : List Row)
-        × IsAtLasting words.now layout.now seat.old p × HasLeft S.allows p left
+        × IsAtLasting words.now layout.now seat.old p × HasShareLeft S.allows p left
         × (next_of own.old.kind left ≡ next) × IsBook (slots_in words.now) p since own.old }
     ensures table { StaysAtTable seat.old seat.new }
     ensures still { AreSlotsStill own.old own.new }
@@ -239,7 +239,7 @@ fn take_back_to<S: Shape>(
 )
     requires next { next ≤ own.old.dealt }
     requires pass { (p : SeatedPass) × (left : Remaining) × (since : List Row)
-        × IsAtLasting words.now layout.now seat.old p × HasLeft S.allows p left
+        × IsAtLasting words.now layout.now seat.old p × HasShareLeft S.allows p left
         × (next_of own.old.kind left ≡ next) × IsBook (slots_in words.now) p since own.old }
     ensures table { StaysAtTable seat.old seat.new }
     ensures still { AreSlotsStill own.old own.new }
@@ -268,7 +268,7 @@ fn put_more<S: Shape>(
     requires inside { from ≤ length own.old.slots.items }
     requires next { next ≤ own.old.dealt }
     requires pass { (p : SeatedPass) × (left : Remaining) × (since : List Row)
-        × IsAtLasting words.now layout.now seat.old p × HasLeft S.allows p left
+        × IsAtLasting words.now layout.now seat.old p × HasShareLeft S.allows p left
         × (next_of own.old.kind left ≡ next) × IsBook (slots_in words.now) p since own.old }
     ensures table { StaysAtTable seat.old seat.new }
     ensures still { AreSlotsStill own.old own.new }
@@ -288,7 +288,7 @@ fn put_more<S: Shape>(
 
 /// Slots that are free, one behind the other.
 #[derive(Clone, Copy)]
-struct Run {
+struct FreeRun {
     start: usize,
     count: usize,
 }
@@ -306,11 +306,11 @@ impl OwnSlots {
     }
 
     /// The first run of three free slots between these two, or the longest that there is.
-    fn run_between(&self, from: usize, to: usize) -> Run
+    fn run_between(&self, from: usize, to: usize) -> FreeRun
         requires { to ≤ length self.now.slots.items }
         ensures { 0 < result.count → result.start < length self.now.slots.items }
     {
-        let mut best = Run {
+        let mut best = FreeRun {
             start: from,
             count: 0,
         };
@@ -319,7 +319,7 @@ impl OwnSlots {
             if !self.is_free(i) {
                 start = i + 1;
             } else if best.count < 3 && best.count < i + 1 - start {
-                best = Run {
+                best = FreeRun {
                     start,
                     count: i + 1 - start,
                 };
@@ -356,7 +356,7 @@ fn put_run<S: Shape>(
 ) -> u64
     requires slot { IsFreeAt own.old i }
     requires pass { (p : SeatedPass) × (left : Remaining) × (since : List Row)
-        × IsAtLasting words.now layout.now seat.old p × HasLeft S.allows p left
+        × IsAtLasting words.now layout.now seat.old p × HasShareLeft S.allows p left
         × (next_of own.old.kind left ≡ own.old.dealt) × IsBook (slots_in words.now) p since own.old }
     ensures table { StaysAtTable seat.old seat.new }
     ensures still { AreSlotsStill own.old own.new }
@@ -389,7 +389,7 @@ pub(crate) fn deal<S: Shape>(
     requires next { next ≤ own.old.dealt }
     requires few { own.old.dealt ≤ next + length own.old.slots.items }
     requires pass { (p : SeatedPass) × (left : Remaining) × (since : List Row)
-        × IsAtLasting words.now layout.now seat.old p × HasLeft S.allows p left
+        × IsAtLasting words.now layout.now seat.old p × HasShareLeft S.allows p left
         × (next_of own.old.kind left ≡ next) × IsBook (slots_in words.now) p since own.old }
     ensures table { StaysAtTable seat.old seat.new }
     ensures still { AreSlotsStill own.old own.new }

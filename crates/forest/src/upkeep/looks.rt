@@ -6,7 +6,7 @@ ghost use Rattle.arena.specs.declared.step.Row.{Row};
 ghost use Rattle.forest.specs.Seats.{StaysAtTable};
 ghost use Rattle.forest.specs.TableRule.{past_of};
 ghost use Rattle.forest.specs.UpkeepSteps.{RestsOn};
-ghost use Rattle.forest.specs.UpkeepBook.{HasEnded, IsAtLasting, IsNameIn, Remembers, WasFound, WasDying, memory_with_note, numbered, record_numbered, slots_in};
+ghost use Rattle.forest.specs.UpkeepBook.{PeriodHasEnded, IsAtLasting, IsNameIn, RemembersAfter, WasFound, WasDying, memory_with_note, kind_number, record_numbered, slots_in};
 ghost use Rattle.forest.specs.declared.memory.NoteView.{NoteView};
 ghost use Rattle.forest.specs.declared.upkeep.kind.RecordKind.{RecordKind};
 ghost use Rattle.forest.specs.declared.view.SeatedPass.{SeatedPass};
@@ -33,9 +33,9 @@ pub(crate) fn is_marked<S: Shape>(
         × IsNameIn (slots_in words.now) p.number.0 p.memory RecordKind.Node slot name
         × IsTaken (past_of p []) (record_numbered RecordKind.Node name) }
     ensures table { StaysAtTable seat.old seat.new }
-    ensures looked { RestsOn S.allows (Remembers
+    ensures looked { RestsOn S.allows (RemembersAfter
         (λ m rows. if result
-        then memory_with_note m (numbered RecordKind.Node name) (NoteView.MarkedOrDead rows)
+        then memory_with_note m (kind_number RecordKind.Node name) (NoteView.MarkedOrDead rows)
         else m))
         seat.old.me.0 seat.new.me.0 }
 {
@@ -53,11 +53,11 @@ pub(crate) fn note_dying<S: Shape>(
     name: RecordName,
 )
     requires { (p : SeatedPass) × (since : List Row) × IsAtLasting words.now layout.now seat.old p
-        × (at < table_size layout.now) × HasEnded (slots_in words.now) p since
+        × (at < table_size layout.now) × PeriodHasEnded (slots_in words.now) p since
         × WasFound p.planting p.memory since name.kind name.number }
     ensures table { StaysAtTable seat.old seat.new }
     ensures looked { RestsOn S.allows
-        (Remembers (λ m rows. memory_with_note m (numbered name.kind name.number) (NoteView.DeadBy rows)))
+        (RemembersAfter (λ m rows. memory_with_note m (kind_number name.kind name.number) (NoteView.DeadBy rows)))
         seat.old.me.0 seat.new.me.0 }
 {
     looks_last::<S>();
@@ -73,11 +73,11 @@ pub(crate) fn note_gone<S: Shape>(
     name: RecordName,
 )
     requires { (p : SeatedPass) × (since : List Row) × IsAtLasting words.now layout.now seat.old p
-        × (at < table_size layout.now) × HasEnded (slots_in words.now) p since
+        × (at < table_size layout.now) × PeriodHasEnded (slots_in words.now) p since
         × WasDying p.planting p.memory since name.kind name.number }
     ensures table { StaysAtTable seat.old seat.new }
     ensures looked { RestsOn S.allows
-        (Remembers (λ m rows. memory_with_note m (numbered name.kind name.number) NoteView.OutOfReach))
+        (RemembersAfter (λ m rows. memory_with_note m (kind_number name.kind name.number) NoteView.OutOfReach))
         seat.old.me.0 seat.new.me.0 }
 {
     looks_last::<S>();

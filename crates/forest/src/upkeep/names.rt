@@ -5,8 +5,8 @@ ghost use Rattle.arena.specs.Share.{Remaining};
 ghost use Rattle.forest.specs.LastingNotes.{IsAmongThese};
 ghost use Rattle.forest.specs.LastingSlots.{IsLastDealt, IsNotBefore, memory_given_back};
 ghost use Rattle.forest.specs.Seats.{StaysAtTable};
-ghost use Rattle.forest.specs.UpkeepBook.{IsAtLasting, Remembers, dealt_of, numbered, record_numbered, slots_in};
-ghost use Rattle.forest.specs.UpkeepDeals.{DealsOn, HasLeft, HasPassedTo, MayGet, memory_given, next_of};
+ghost use Rattle.forest.specs.UpkeepBook.{IsAtLasting, RemembersAfter, dealt_of, kind_number, record_numbered, slots_in};
+ghost use Rattle.forest.specs.UpkeepDeals.{DealsOn, HasShareLeft, HasPassedTo, MayGet, memory_given, next_of};
 ghost use Rattle.forest.specs.UpkeepSteps.{RestsOn};
 ghost use Rattle.forest.specs.declared.view.SeatedPass.{SeatedPass};
 
@@ -36,7 +36,7 @@ pub(crate) fn pass_to<S: Shape>(
     given: Given,
 )
     requires { (p : SeatedPass) × (left : Remaining) × IsAtLasting words.now layout.now seat.old p
-        × (at < table_size layout.now) × HasLeft S.allows p left
+        × (at < table_size layout.now) × HasShareLeft S.allows p left
         × (next_of given.kind left ≡ dealt_of given.kind p.memory)
         × MayGet (slots_in words.now) p given.kind given.slot given.count }
     ensures table { StaysAtTable seat.old seat.new }
@@ -57,12 +57,12 @@ pub(crate) fn give_next<S: Shape>(
     slot: RecordName,
 )
     requires { (p : SeatedPass) × (left : Remaining) × IsAtLasting words.now layout.now seat.old p
-        × (at < table_size layout.now) × HasLeft S.allows p left
+        × (at < table_size layout.now) × HasShareLeft S.allows p left
         × (next_of slot.kind left ≤ dealt_of slot.kind p.memory)
         × MayGet (slots_in words.now) p slot.kind slot.number 0 }
     ensures table { StaysAtTable seat.old seat.new }
     ensures given { RestsOn S.allows
-        (Remembers (λ m rows. memory_given slot.kind m 0 (numbered slot.kind slot.number) rows))
+        (RemembersAfter (λ m rows. memory_given slot.kind m 0 (kind_number slot.kind slot.number) rows))
         seat.old.me.0 seat.new.me.0 }
 {
     names_last::<S>();
@@ -79,13 +79,13 @@ pub(crate) fn give_back<S: Shape>(
     name: RecordName,
 )
     requires { (p : SeatedPass) × (left : Remaining) × IsAtLasting words.now layout.now seat.old p
-        × (at < table_size layout.now) × HasLeft S.allows p left
-        × IsAmongThese (numbered name.kind name.number) p.memory.holds
+        × (at < table_size layout.now) × HasShareLeft S.allows p left
+        × IsAmongThese (kind_number name.kind name.number) p.memory.holds
         × IsLastDealt p.memory (record_numbered name.kind name.number)
         × IsNotBefore left (record_numbered name.kind name.number) }
     ensures table { StaysAtTable seat.old seat.new }
     ensures given { RestsOn S.allows
-        (Remembers (λ m rows. memory_given_back (slots_in words.now) m (numbered name.kind name.number)))
+        (RemembersAfter (λ m rows. memory_given_back (slots_in words.now) m (kind_number name.kind name.number)))
         seat.old.me.0 seat.new.me.0 }
 {
     slots_last::<S>();

@@ -9,7 +9,7 @@ ghost use Rattle.forest.specs.UpkeepOpening.{AreNamesOf, ArePlacesOf};
 ghost use Rattle.forest.specs.declared.view.SeatedPass.{SeatedPass};
 
 use crate::rule::Turns;
-use crate::upkeep::book::{Known, OwnSlot, OwnSlots};
+use crate::upkeep::book::{OwnSlot, OwnSlots, SlotState};
 use crate::upkeep::kind::RecordKind;
 use arena::{Layout, NoMemory, PassNo};
 use std::alloc::Global;
@@ -97,7 +97,7 @@ pub(crate) fn open_slots(
     for i in 0..at.count {
         slots.push(OwnSlot {
             name: at.name + u64::from(i),
-            known: Known::Used,
+            known: SlotState::Used,
         })?;
     }
     Ok(OwnSlots {

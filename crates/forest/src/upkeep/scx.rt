@@ -11,12 +11,12 @@ ghost use Rattle.slots.specs.Lasting.{IsOwnRecord, IsTaken, table_place};
 ghost use Rattle.forest.specs.LastingNotes.{IsAmongThese, memory_done};
 ghost use Rattle.forest.specs.Seats.{StaysAtTable};
 ghost use Rattle.forest.specs.TableRule.{past_of};
-ghost use Rattle.forest.specs.UpkeepBook.{IsAtLasting, IsNameIn, KnowsNow, Remembers, memory_with_note, numbered, record_numbered, slots_in};
-ghost use Rattle.forest.specs.UpkeepDeals.{HasLeft};
+ghost use Rattle.forest.specs.UpkeepBook.{IsAtLasting, IsNameIn, KnowsNow, RemembersAfter, memory_with_note, kind_number, record_numbered, slots_in};
+ghost use Rattle.forest.specs.UpkeepDeals.{HasShareLeft};
 ghost use Rattle.forest.specs.UpkeepScx.{HasLoaded, IsDoneNoted};
 ghost use Rattle.forest.specs.UpkeepSteps.{RestsOn};
 ghost use Rattle.forest.specs.declared.memory.NoteView.{NoteView};
-ghost use Rattle.forest.specs.declared.upkeep.book.Known.{Known};
+ghost use Rattle.forest.specs.declared.upkeep.book.SlotState.{SlotState};
 ghost use Rattle.forest.specs.declared.upkeep.kind.RecordKind.{RecordKind};
 ghost use Rattle.forest.specs.declared.view.SeatedPass.{SeatedPass};
 
@@ -83,15 +83,15 @@ fn is_let_go<S: Shape>(
 ) -> bool
     requires { (p : SeatedPass) × (left : Remaining) × (n : ℕ)
         × IsAtLasting words.now layout.now seat.old p
-        × (at < table_size layout.now) × HasLeft S.allows p left
+        × (at < table_size layout.now) × HasShareLeft S.allows p left
         × (at ≡ table_place (slots_in words.now) (info n))
         × (member (past_of p []) of.name of.place ≡ n)
-        × IsAmongThese (numbered RecordKind.Scx of.name) p.memory.holds
+        × IsAmongThese (kind_number RecordKind.Scx of.name) p.memory.holds
         × IsTaken (past_of p []) (record_numbered RecordKind.Scx of.name) }
     ensures table { StaysAtTable seat.old seat.new }
-    ensures looked { RestsOn S.allows (Remembers
+    ensures looked { RestsOn S.allows (RemembersAfter
         (λ m rows. if result
-        then memory_with_note m (numbered RecordKind.Scx of.name) (NoteView.DoneWith of.place)
+        then memory_with_note m (kind_number RecordKind.Scx of.name) (NoteView.DoneWith of.place)
         else m))
         seat.old.me.0 seat.new.me.0 }
 {
@@ -108,13 +108,13 @@ fn note_over<S: Shape>(
     name: u64,
 )
     requires { (p : SeatedPass) × (left : Remaining) × IsAtLasting words.now layout.now seat.old p
-        × (at < table_size layout.now) × HasLeft S.allows p left
-        × IsAmongThese (numbered RecordKind.Scx name) p.memory.holds
+        × (at < table_size layout.now) × HasShareLeft S.allows p left
+        × IsAmongThese (kind_number RecordKind.Scx name) p.memory.holds
         × IsTaken (past_of p []) (record_numbered RecordKind.Scx name)
         × ((j : ℕ) → j < count (past_of p []) name → IsDoneNoted p.memory name j) }
     ensures table { StaysAtTable seat.old seat.new }
-    ensures looked { RestsOn S.allows (Remembers
-        (λ m rows. memory_with_note m (numbered RecordKind.Scx name) (NoteView.MarkedOrDead rows)))
+    ensures looked { RestsOn S.allows (RemembersAfter
+        (λ m rows. memory_with_note m (kind_number RecordKind.Scx name) (NoteView.MarkedOrDead rows)))
         seat.old.me.0 seat.new.me.0 }
 {
     finished_last::<S>();
@@ -134,13 +134,13 @@ fn is_done_with<S: Shape>(
     requires place { of.place < 4 }
     requires turn { (0 < node_turn) × (node_turn ≡ (slots_in words.now).node_turn) }
     requires pass { (p : SeatedPass) × (left : Remaining) × IsAtLasting words.now layout.now seat.old p
-        × HasLeft S.allows p left × IsOwnRecord layout.now p.number.0 (record_numbered RecordKind.Scx slot)
+        × HasShareLeft S.allows p left × IsOwnRecord layout.now p.number.0 (record_numbered RecordKind.Scx slot)
         × IsNameIn (slots_in words.now) p.number.0 p.memory RecordKind.Scx slot of.name
         × IsTaken (past_of p []) (record_numbered RecordKind.Scx of.name) }
     ensures table { StaysAtTable seat.old seat.new }
-    ensures looked { RestsOn S.allows (Remembers
+    ensures looked { RestsOn S.allows (RemembersAfter
         (λ m rows. if result
-        then memory_with_note m (numbered RecordKind.Scx of.name) (NoteView.DoneWith of.place)
+        then memory_with_note m (kind_number RecordKind.Scx of.name) (NoteView.DoneWith of.place)
         else m))
         seat.old.me.0 seat.new.me.0 }
 {
@@ -166,13 +166,13 @@ fn note_done<S: Shape>(
     of: Covered,
 )
     requires { (p : SeatedPass) × (left : Remaining) × IsAtLasting words.now layout.now seat.old p
-        × (at < table_size layout.now) × HasLeft S.allows p left
-        × IsAmongThese (numbered RecordKind.Scx of.name) p.memory.holds
+        × (at < table_size layout.now) × HasShareLeft S.allows p left
+        × IsAmongThese (kind_number RecordKind.Scx of.name) p.memory.holds
         × IsTaken (past_of p []) (record_numbered RecordKind.Scx of.name)
         × WasDoneWith p.layout (past_of p []) of.name of.place }
     ensures table { StaysAtTable seat.old seat.new }
-    ensures looked { RestsOn S.allows (Remembers
-        (λ m rows. memory_with_note m (numbered RecordKind.Scx of.name) (NoteView.DoneWith of.place)))
+    ensures looked { RestsOn S.allows (RemembersAfter
+        (λ m rows. memory_with_note m (kind_number RecordKind.Scx of.name) (NoteView.DoneWith of.place)))
         seat.old.me.0 seat.new.me.0 }
 {
     finished_last::<S>();
@@ -195,14 +195,14 @@ fn is_done<S: Shape>(
     requires turn { (0 < node_turn) × (node_turn ≡ (slots_in words.now).node_turn) }
     requires at { at < table_size layout.now }
     requires pass { (p : SeatedPass) × (left : Remaining) × IsAtLasting words.now layout.now seat.old p
-        × HasLeft S.allows p left × IsOwnRecord layout.now p.number.0 (record_numbered RecordKind.Scx slot)
+        × HasShareLeft S.allows p left × IsOwnRecord layout.now p.number.0 (record_numbered RecordKind.Scx slot)
         × IsNameIn (slots_in words.now) p.number.0 p.memory RecordKind.Scx slot of.name
         × IsTaken (past_of p []) (record_numbered RecordKind.Scx of.name)
         × (IsTrue removed → WasDoneWith p.layout (past_of p []) of.name of.place) }
     ensures table { StaysAtTable seat.old seat.new }
-    ensures looked { RestsOn S.allows (Remembers
+    ensures looked { RestsOn S.allows (RemembersAfter
         (λ m rows. if result
-        then memory_with_note m (numbered RecordKind.Scx of.name) (NoteView.DoneWith of.place)
+        then memory_with_note m (kind_number RecordKind.Scx of.name) (NoteView.DoneWith of.place)
         else m))
         seat.old.me.0 seat.new.me.0 }
 {
@@ -226,12 +226,12 @@ pub(crate) fn is_over<S: Shape>(
 ) -> bool
     requires turn { (0 < node_turn) × (node_turn ≡ (slots_in words.now).node_turn) }
     requires pass { (p : SeatedPass) × (left : Remaining) × IsAtLasting words.now layout.now seat.old p
-        × HasLeft S.allows p left × IsOwnRecord layout.now p.number.0 (record_numbered RecordKind.Scx slot)
+        × HasShareLeft S.allows p left × IsOwnRecord layout.now p.number.0 (record_numbered RecordKind.Scx slot)
         × IsNameIn (slots_in words.now) p.number.0 p.memory RecordKind.Scx slot name
         × IsTaken (past_of p []) (record_numbered RecordKind.Scx name) }
     ensures table { StaysAtTable seat.old seat.new }
     ensures looked { RestsOn S.allows (KnowsNow (slots_in words.now) RecordKind.Scx slot
-        record { name = name; known = if result then Known.Found else Known.Used })
+        record { name = name; known = if result then SlotState.Found else SlotState.Used })
         seat.old.me.0 seat.new.me.0 }
 {
     let at = layout.place(Word::Scx(ScxNo(slot), ScxWord::State));

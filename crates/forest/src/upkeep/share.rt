@@ -3,7 +3,7 @@ ghost use Rattle.std.specs.Prelude.{◌≡◌, ◌+◌, ◌≤◌, List, length}
 ghost use Rattle.arena.specs.declared.step.Row.{Row};
 ghost use Rattle.forest.specs.Seats.{StaysAtTable};
 ghost use Rattle.forest.specs.UpkeepBook.{IsAtLasting, IsBook, slots_in};
-ghost use Rattle.forest.specs.UpkeepDeals.{AreSlotsStill, DealsOn, HasDealt, HasLeft, IsShareOf};
+ghost use Rattle.forest.specs.UpkeepDeals.{AreSlotsStill, DealsOn, HasDealt, HasShareLeft, IsShareOf};
 ghost use Rattle.forest.specs.declared.upkeep.kind.RecordKind.{RecordKind};
 ghost use Rattle.forest.specs.declared.view.SeatedPass.{SeatedPass};
 
@@ -25,7 +25,7 @@ pub(crate) fn deal_nodes<S: Shape>(
     requires kind { own.old.kind ≡ RecordKind.Node }
     requires share { IsShareOf own.old share }
     requires pass { (p : SeatedPass) × (since : List Row)
-        × IsAtLasting words.now layout.now seat.old p × HasLeft S.allows p share
+        × IsAtLasting words.now layout.now seat.old p × HasShareLeft S.allows p share
         × IsBook (slots_in words.now) p since own.old }
     ensures table { StaysAtTable seat.old seat.new }
     ensures still { AreSlotsStill own.old own.new }
@@ -33,7 +33,7 @@ pub(crate) fn deal_nodes<S: Shape>(
     ensures scx { (result.next_scx ≡ share.next_scx) × (result.scx ≡ share.scx) }
     ensures given { DealsOn (λ p q. HasDealt S.allows (slots_in words.now) own.old own.new
         share.next_node result.next_node p q
-        × (HasLeft S.allows p share → HasLeft S.allows q result))
+        × (HasShareLeft S.allows p share → HasShareLeft S.allows q result))
         seat.old.me.0 seat.new.me.0 }
 {
     let (node, scx) = share.next();
@@ -54,7 +54,7 @@ pub(crate) fn deal_scx<S: Shape>(
     requires kind { own.old.kind ≡ RecordKind.Scx }
     requires share { IsShareOf own.old share }
     requires pass { (p : SeatedPass) × (since : List Row)
-        × IsAtLasting words.now layout.now seat.old p × HasLeft S.allows p share
+        × IsAtLasting words.now layout.now seat.old p × HasShareLeft S.allows p share
         × IsBook (slots_in words.now) p since own.old }
     ensures table { StaysAtTable seat.old seat.new }
     ensures still { AreSlotsStill own.old own.new }
@@ -62,7 +62,7 @@ pub(crate) fn deal_scx<S: Shape>(
     ensures nodes { (result.next_node ≡ share.next_node) × (result.nodes ≡ share.nodes) }
     ensures given { DealsOn (λ p q. HasDealt S.allows (slots_in words.now) own.old own.new
         share.next_scx result.next_scx p q
-        × (HasLeft S.allows p share → HasLeft S.allows q result))
+        × (HasShareLeft S.allows p share → HasShareLeft S.allows q result))
         seat.old.me.0 seat.new.me.0 }
 {
     let (node, scx) = share.next();

@@ -5,12 +5,12 @@ ghost use Rattle.arena.specs.declared.step.Row.{Row};
 ghost use Rattle.slots.specs.Lasting.{IsOwnRecord, IsTaken};
 ghost use Rattle.forest.specs.Seats.{StaysAtTable};
 ghost use Rattle.forest.specs.TableRule.{past_of};
-ghost use Rattle.forest.specs.UpkeepDeals.{HasLeft};
+ghost use Rattle.forest.specs.UpkeepDeals.{HasShareLeft};
 ghost use Rattle.forest.specs.UpkeepSteps.{RestsOn};
-ghost use Rattle.forest.specs.UpkeepBook.{AreSameSlots, HasEnded, HasFreed, HasTakenBelow, HasTurned, HasTurnedAll, IsAtLasting, IsBook, IsNameIn, IsSlotSo, IsWholeBook, KnowsNow, WasDying, record_numbered, slots_in};
+ghost use Rattle.forest.specs.UpkeepBook.{AreSameSlots, PeriodHasEnded, HasFreed, HasTakenBelow, HasTurnedSlots, HasTurnedAll, IsAtLasting, IsBook, IsNameIn, IsSlotSo, IsWholeBook, KnowsNow, WasDying, record_numbered, slots_in};
 ghost use Rattle.forest.specs.declared.view.SeatedPass.{SeatedPass};
 
-use crate::upkeep::book::{Book, Known, OwnSlot, OwnSlots};
+use crate::upkeep::book::{Book, OwnSlot, OwnSlots, SlotState};
 use crate::upkeep::clean::{clean, let_go};
 use crate::upkeep::kind::{RecordKind, RecordName};
 use crate::upkeep::looks::{is_marked, note_dying, note_gone};
@@ -31,7 +31,7 @@ pub(crate) fn turn_book<S: Shape>(
     share: &Share,
 )
     requires { (p : SeatedPass) × (since : List Row) × IsAtLasting words.now layout.now seat.old p
-        × HasEnded (slots_in words.now) p since × HasLeft S.allows p share.now
+        × PeriodHasEnded (slots_in words.now) p since × HasShareLeft S.allows p share.now
         × IsWholeBook (slots_in words.now) p since book.old }
     ensures table { StaysAtTable seat.old seat.new }
     ensures same { AreSameSlots book.old.nodes book.new.nodes × AreSameSlots book.old.scx book.new.scx }
@@ -56,11 +56,11 @@ pub(crate) fn turn_all<S: Shape>(
 )
     requires turn { (0 < node_turn) × (node_turn ≡ (slots_in words.now).node_turn) }
     requires pass { (p : SeatedPass) × (since : List Row) × IsAtLasting words.now layout.now seat.old p
-        × HasEnded (slots_in words.now) p since × HasTakenBelow p own.old.kind next
-        × IsBook (slots_in words.now) p since own.old × (left : Remaining) × HasLeft S.allows p left }
+        × PeriodHasEnded (slots_in words.now) p since × HasTakenBelow p own.old.kind next
+        × IsBook (slots_in words.now) p since own.old × (left : Remaining) × HasShareLeft S.allows p left }
     ensures table { StaysAtTable seat.old seat.new }
     ensures same { AreSameSlots own.old own.new }
-    ensures turned { RestsOn S.allows (HasTurned (slots_in words.now) own.new)
+    ensures turned { RestsOn S.allows (HasTurnedSlots (slots_in words.now) own.new)
         seat.old.me.0 seat.new.me.0 }
 {
     for i in 0..own.slots.len() {
@@ -92,32 +92,32 @@ fn turn<S: Shape>(
     requires turn { (0 < node_turn) × (node_turn ≡ (slots_in words.now).node_turn) }
     requires pass { (p : SeatedPass) × (since : List Row) × IsAtLasting words.now layout.now seat.old p
         × IsOwnRecord layout.now p.number.0 (record_numbered kind slot)
-        × HasEnded (slots_in words.now) p since × HasTakenBelow p kind next
+        × PeriodHasEnded (slots_in words.now) p since × HasTakenBelow p kind next
         × IsSlotSo (slots_in words.now) p since kind slot known
-        × (left : Remaining) × HasLeft S.allows p left }
+        × (left : Remaining) × HasShareLeft S.allows p left }
     ensures table { StaysAtTable seat.old seat.new }
     ensures turned { RestsOn S.allows (KnowsNow (slots_in words.now) kind slot result)
         seat.old.me.0 seat.new.me.0 }
 {
     let name = known.name;
     match known.known {
-        Known::Used if name < next => OwnSlot {
+        SlotState::Used if name < next => OwnSlot {
             name,
             known: look_at(words, layout, seat, kind, slot, name, node_turn),
         },
-        Known::Found => {
+        SlotState::Found => {
             let at = layout.place(word_at(kind, slot, 0));
             note_dying(words, layout, seat, at, RecordName { kind, number: name });
             OwnSlot {
                 name,
-                known: Known::Dying,
+                known: SlotState::Dying,
             }
         }
-        Known::Dying if name < next => {
+        SlotState::Dying if name < next => {
             free(words, layout, seat, kind, slot, name);
             OwnSlot {
                 name,
-                known: Known::Free,
+                known: SlotState::Free,
             }
         }
         _ => known,
@@ -133,13 +133,13 @@ fn look_at<S: Shape>(
     slot: u64,
     name: u64,
     node_turn: u64,
-) -> Known
+) -> SlotState
     requires turn { (0 < node_turn) × (node_turn ≡ (slots_in words.now).node_turn) }
     requires pass { (p : SeatedPass) × IsAtLasting words.now layout.now seat.old p
         × IsOwnRecord layout.now p.number.0 (record_numbered kind slot)
         × IsNameIn (slots_in words.now) p.number.0 p.memory kind slot name
         × IsTaken (past_of p []) (record_numbered kind name)
-        × (left : Remaining) × HasLeft S.allows p left }
+        × (left : Remaining) × HasShareLeft S.allows p left }
     ensures table { StaysAtTable seat.old seat.new }
     ensures looked { RestsOn S.allows
         (KnowsNow (slots_in words.now) kind slot record { name = name; known = result })
@@ -148,16 +148,16 @@ fn look_at<S: Shape>(
     match kind {
         RecordKind::Node => {
             if is_marked(words, layout, seat, slot, name) {
-                Known::Found
+                SlotState::Found
             } else {
-                Known::Used
+                SlotState::Used
             }
         }
         RecordKind::Scx => {
             if is_over(words, layout, seat, slot, name, node_turn) {
-                Known::Found
+                SlotState::Found
             } else {
-                Known::Used
+                SlotState::Used
             }
         }
     }
@@ -174,7 +174,7 @@ fn free<S: Shape>(
 )
     requires { (p : SeatedPass) × (since : List Row) × IsAtLasting words.now layout.now seat.old p
         × IsOwnRecord layout.now p.number.0 (record_numbered kind slot)
-        × HasEnded (slots_in words.now) p since
+        × PeriodHasEnded (slots_in words.now) p since
         × IsNameIn (slots_in words.now) p.number.0 p.memory kind slot name
         × WasDying p.planting p.memory since kind name
         × IsTaken (past_of p []) (record_numbered kind name) }

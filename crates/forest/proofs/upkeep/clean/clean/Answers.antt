@@ -1,7 +1,7 @@
 use Rattle.std.proofs.Common.{◌≡◌, ◌+◌, refl, ◌∙◌, subst, arith}
 use Rattle.histories.specs.Common.{IsWord, Layout}
 use Rattle.forest.specs.LastingSlots.{memory_cleared}
-use Rattle.forest.specs.UpkeepBook.{HasFreed, Remembers, parts_of, slots_in}
+use Rattle.forest.specs.UpkeepBook.{HasFreed, RemembersAfter, parts_of, slots_in}
 use Rattle.forest.proofs.UpkeepLooks.{at_now, few_parts, own_now, table_in}
 use Rattle.forest.proofs.UpkeepSteps.{seat_as, seat_on, seat_still}
 use Rattle.forest.proofs.UpkeepTurn.{IsClearedTo, all_cleared, none_cleared, one_cleared}
@@ -28,7 +28,7 @@ loop-place-preserved g c =
     let word = c.clear.ensures.cleared.0 in
     let is = table_in c.args.words.now c.args.layout.now c.args.seat.now c.requires.0 c.requires.1 in record {
       stays = (c.clear.ensures.table.0 ∙ inv.stays.0, c.clear.ensures.table.1 ∙ inv.stays.1);
-      so = seat_on g.S.Shape.allows (IsClearedTo t c.args.kind c.args.slot c.loop-place.place) (Remembers (λ m rows. memory_cleared m word)) (IsClearedTo t c.args.kind c.args.slot (c.loop-place.place + 1)) c.args.seat.now.me.0 c.loop-place.seat.me.0 c.clear.new.seat.me.0
+      so = seat_on g.S.Shape.allows (IsClearedTo t c.args.kind c.args.slot c.loop-place.place) (RemembersAfter (λ m rows. memory_cleared m word)) (IsClearedTo t c.args.kind c.args.slot (c.loop-place.place + 1)) c.args.seat.now.me.0 c.loop-place.seat.me.0 c.clear.new.seat.me.0
           (λ p q r. one_cleared t c.args.kind c.args.slot c.loop-place.place p q r word (λ other i. c.clear.ensures.cleared.3 other (subst (λ (l : Layout). IsWord l other) is i)))
           inv.so c.clear.ensures.cleared.1;
     }

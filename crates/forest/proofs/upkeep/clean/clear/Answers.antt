@@ -3,7 +3,7 @@ use Rattle.arena.specs.Words.{offset}
 use Rattle.histories.specs.Common.{IsWord, Layout, Word, place}
 use Rattle.resting.specs.Records.{Record, record_of}
 use Rattle.forest.specs.LastingSlots.{memory_cleared}
-use Rattle.forest.specs.UpkeepBook.{numbered, slots_in}
+use Rattle.forest.specs.UpkeepBook.{kind_number, slots_in}
 use Rattle.forest.proofs.UpkeepLooks.{has_learnt, is_word_of, may_learn, placed, table_in}
 use Rattle.forest.proofs.upkeep.clean.clear.Goals as goal
 
@@ -23,7 +23,7 @@ store_with-requires-clause-may g c =
     let is = table_in c.args.words.now c.args.layout.now c.args.seat.now p at in
     may_learn g.S.Shape.allows (λ m n rows. memory_cleared m word) c.args.words.now c.args.layout.now c.args.seat.now p (place t.table word) c.place-at.result (λ n. 0) at
     (ap (λ l. place l word) is ∙ sym c.place-at.ensures.place)
-    (c.slots_last.ensures.zeros t c.args.words.now.table.shared.key.planting c.args.words.now.table.shared.table_id.slots c.args.seat.now.id c.args.seat.now.me p word (numbered c.args.kind c.args.slot) at.alone c.requires.empty.3 (sym c.word_at-word.ensures.record) (subst (λ l. IsWord l word) (sym is) (is_word_of c.args.layout.now p.number.0 word _ at.is_pass c.requires.empty.2 c.word_at-word.ensures.record c.word_at-word.ensures.part)))
+    (c.slots_last.ensures.zeros t c.args.words.now.table.shared.key.planting c.args.words.now.table.shared.table_id.slots c.args.seat.now.id c.args.seat.now.me p word (kind_number c.args.kind c.args.slot) at.alone c.requires.empty.3 (sym c.word_at-word.ensures.record) (subst (λ l. IsWord l word) (sym is) (is_word_of c.args.layout.now p.number.0 word _ at.is_pass c.requires.empty.2 c.word_at-word.ensures.record c.word_at-word.ensures.part)))
 
 pub returns-clause-cleared : goal.returns-clause-cleared
 returns-clause-cleared g c =

@@ -1,6 +1,6 @@
 use Rattle.std.proofs.Common.{◌<◌, ◌+◌, refl, arith}
 use Rattle.forest.specs.LastingSlots.{memory_given_back}
-use Rattle.forest.specs.UpkeepBook.{HasFreed, Remembers, numbered, slots_in}
+use Rattle.forest.specs.UpkeepBook.{HasFreed, RemembersAfter, kind_number, slots_in}
 use Rattle.forest.proofs.UpkeepDealt.{empty_then, given_back, is_left, last_dealt, name_there, within}
 use Rattle.forest.proofs.UpkeepLooks.{at_now, is_word_of, table_in}
 use Rattle.forest.proofs.UpkeepSteps.{rests_on}
@@ -32,9 +32,9 @@ clean-requires g c =
     let allows = g.S.Shape.allows in
     let t = slots_in c.args.words.now in
     let x = c.give_back.ensures.given in
-    let goes = from_pass allows (Remembers (λ m rows. memory_given_back t m (numbered own.kind c.args.name))) c.args.seat.now.me.0 c.give_back.new.seat.me.0 r.0 r.3.alone x in (
+    let goes = from_pass allows (RemembersAfter (λ m rows. memory_given_back t m (kind_number own.kind c.args.name))) c.args.seat.now.me.0 c.give_back.new.seat.me.0 r.0 r.3.alone x in (
       x.later,
-      at_now c.args.words.now c.args.layout.now allows (Remembers (λ m rows. memory_given_back t m (numbered own.kind c.args.name))) c.args.seat.now c.give_back.new.seat r.0 r.3 c.give_back.ensures.table x,
+      at_now c.args.words.now c.args.layout.now allows (RemembersAfter (λ m rows. memory_given_back t m (kind_number own.kind c.args.name))) c.args.seat.now c.give_back.new.seat r.0 r.3 c.give_back.ensures.table x,
       own_slot t c.args.layout.now r.0 x.later own own.kind own.first c.args.i (table_in c.args.words.now c.args.layout.now c.args.seat.now r.0 r.3) r.6.all goes.0.number refl refl (within own.slots.items c.args.i at.0 at.1),
       empty_then allows t own own c.args.i c.args.next c.args.name r.0 r.2 r.6 at x.later goes.1,
     )
@@ -50,7 +50,7 @@ returns-clause-given g c =
     let allows = g.S.Shape.allows in
     let t = slots_in c.args.words.now in
     let x = c.give_back.ensures.given in
-    let goes = from_pass allows (Remembers (λ m rows. memory_given_back t m (numbered own.kind c.args.name))) c.args.seat.now.me.0 c.give_back.new.seat.me.0 r.0 r.3.alone x in
+    let goes = from_pass allows (RemembersAfter (λ m rows. memory_given_back t m (kind_number own.kind c.args.name))) c.args.seat.now.me.0 c.give_back.new.seat.me.0 r.0 r.3.alone x in
     let y = c.clean.ensures.cleaned in
     let on = from_pass allows (HasFreed t own.kind (own.first + c.args.i)) c.give_back.new.seat.me.0 c.clean.new.seat.me.0 x.later x.is y in
     let inside : c.args.name < own.end = (let n = c.requires.name in let e = own.ends.0 in omega (arith, n, e)) in

@@ -1,7 +1,7 @@
 use Rattle.std.proofs.Common.{◌+◌, refl, sym, ◌∙◌, subst, arith}
 use Rattle.std.proofs.Math.Nat.{le_of_eq}
 use Rattle.forest.specs.UpkeepBook.{slots_in}
-use Rattle.forest.specs.UpkeepDeals.{HasDealt, HasLeft, HasPassedTo, with_left}
+use Rattle.forest.specs.UpkeepDeals.{HasDealt, HasShareLeft, HasPassedTo, with_left}
 use Rattle.forest.proofs.UpkeepDealt.{book_then, keeps, may_get, others, within}
 use Rattle.forest.proofs.UpkeepDeals.{deals_as}
 use Rattle.forest.proofs.UpkeepLooks.{is_word_of, table_in}
@@ -39,7 +39,7 @@ returns-clause-given g c =
       keeps = keeps t own c.put.new.self c.args.i c.args.count r.0 q goes.number goes.planting x.memory c.put.ensures.still c.put.ensures.dealt c.put.ensures.slots may;
       book = λ since book. book_then t own c.put.new.self c.args.i c.args.count r.0 q goes.number goes.planting x.memory c.put.ensures.still c.put.ensures.dealt c.put.ensures.slots may since book;
       others = others t own c.put.new.self c.args.i c.args.count r.0 q goes.number goes.planting x.memory c.put.ensures.still c.put.ensures.dealt c.put.ensures.slots may;
-      left = λ left has same. subst (λ n. HasLeft allows q (with_left own.kind left (own.dealt + c.args.count) n)) (let e = c.put.ensures.dealt in omega (arith, e))
-          (subst (λ n. HasLeft allows q (with_left own.kind left (n + c.args.count) 1)) (sym r.6.all.dealt) (x.left left has (same ∙ r.6.all.dealt) may.own r.3.names));
+      left = λ left has same. subst (λ n. HasShareLeft allows q (with_left own.kind left (own.dealt + c.args.count) n)) (let e = c.put.ensures.dealt in omega (arith, e))
+          (subst (λ n. HasShareLeft allows q (with_left own.kind left (n + c.args.count) 1)) (sym r.6.all.dealt) (x.left left has (same ∙ r.6.all.dealt) may.own r.3.names));
     })
     c.pass_to.ensures.given

@@ -1,5 +1,5 @@
 use Rattle.std.proofs.Common.{◌≤◌, ◌+◌, refl, arith}
-use Rattle.forest.specs.UpkeepBook.{Remembers, dealt_of, numbered, slots_in}
+use Rattle.forest.specs.UpkeepBook.{RemembersAfter, dealt_of, kind_number, slots_in}
 use Rattle.forest.specs.UpkeepDeals.{HasDealt, memory_given, next_of}
 use Rattle.forest.proofs.UpkeepDealt.{may_get, next_dealt, within}
 use Rattle.forest.proofs.UpkeepLooks.{is_word_of, table_in}
@@ -38,6 +38,6 @@ returns-clause-given g c =
     let new = c.put.new.self in
     let less : next_of own.kind r.1 ≤ dealt_of own.kind r.0.memory = (let e = r.5 in let d = r.6.all.dealt in let n = c.requires.next in omega (arith, e, d, n)) in
     let may = may_get allows t r.0 r.1 r.2 own c.args.i 0 r.3.names r.4 less r.6 c.requires.slot.0 c.requires.slot.1 in
-    known_as allows (Remembers (λ m rows. memory_given own.kind m 0 (numbered own.kind (own.first + c.args.i)) rows)) (HasDealt allows t own new c.args.next c.args.next) c.args.seat.now.me.0 c.give_next.new.seat.me.0 r.0 r.3.alone
+    known_as allows (RemembersAfter (λ m rows. memory_given own.kind m 0 (kind_number own.kind (own.first + c.args.i)) rows)) (HasDealt allows t own new c.args.next c.args.next) c.args.seat.now.me.0 c.give_next.new.seat.me.0 r.0 r.3.alone
     (λ q goes e. next_dealt allows t own new c.args.i c.args.next r.0 q r.2 goes e c.put.ensures.still c.put.ensures.dealt c.put.ensures.slots may c.requires.slot.1 r.6 r.3.names c.requires.next)
     c.give_next.ensures.given

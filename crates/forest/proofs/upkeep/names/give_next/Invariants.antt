@@ -1,6 +1,6 @@
-use Rattle.forest.specs.UpkeepBook.{LearnsOf, numbered}
+use Rattle.forest.specs.UpkeepBook.{LearnsOf, kind_number}
 use Rattle.forest.specs.UpkeepDeals.{memory_given}
 use Rattle.forest.proofs.upkeep.names.give_next.Given as goal
 
 abbrev pub ghosts-load_with : goal.ghosts-load_with
-ghosts-load_with g a = record { learns = LearnsOf g.S.Shape.allows (λ m n rows. memory_given a.about.kind m 0 (numbered a.about.kind a.about.number) rows) }
+ghosts-load_with g a = record { learns = LearnsOf g.S.Shape.allows (λ m n rows. memory_given a.about.kind m 0 (kind_number a.about.kind a.about.number) rows) }

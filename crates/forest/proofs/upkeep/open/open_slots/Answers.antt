@@ -3,7 +3,7 @@ use Rattle.arena.specs.declared.number.PassNo.{PassNo}
 use Rattle.forest.specs.LastingOpening.{first_memory}
 use Rattle.forest.specs.Slotted.{in_turns}
 use Rattle.forest.specs.UpkeepBook.{count_own, first_own}
-use Rattle.forest.specs.declared.upkeep.book.Known.TheVariants.{Used}
+use Rattle.forest.specs.declared.upkeep.book.SlotState.TheVariants.{Used}
 use Rattle.forest.specs.declared.upkeep.book.OwnSlot.{OwnSlot}
 use Rattle.forest.proofs.UpkeepOpening.{opens_book}
 use Rattle.forest.proofs.upkeep.open.open_slots.Goals as goal

@@ -1,5 +1,5 @@
 use Rattle.std.proofs.Common.{◌≡◌, ◌+◌, ℕ, Some, length, slice_get}
-use Rattle.forest.specs.declared.upkeep.book.Known.TheVariants.{Used}
+use Rattle.forest.specs.declared.upkeep.book.SlotState.TheVariants.{Used}
 use Rattle.forest.specs.declared.upkeep.book.OwnSlot.{OwnSlot}
 use Rattle.forest.proofs.upkeep.open.open_slots.Given as goal
 

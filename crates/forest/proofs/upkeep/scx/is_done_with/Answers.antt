@@ -1,6 +1,6 @@
 use Rattle.std.proofs.Common.{◌%◌, if◌then◌else◌, sym, ◌∙◌, ap}
 use Rattle.histories.specs.Common.{Info, Layout, Member, node, place}
-use Rattle.forest.specs.UpkeepBook.{Remembers, memory_with_note, numbered, record_numbered, slots_in}
+use Rattle.forest.specs.UpkeepBook.{RemembersAfter, memory_with_note, kind_number, record_numbered, slots_in}
 use Rattle.forest.specs.UpkeepScx.{HasLoaded}
 use Rattle.forest.specs.declared.memory.NoteView.TheVariants.{DoneWith}
 use Rattle.forest.specs.declared.memory.PassMemory.{PassMemory}
@@ -38,10 +38,10 @@ is_let_go-requires g c =
     )
 
 pub returns-then-node-from-clause-looked : goal.returns-then-node-from-clause-looked
-returns-then-node-from-clause-looked g c = let of = c.args.of in seat_as g.S.Shape.allows (HasLoaded of.name (Member of.place) c.load_part.result) (Remembers (λ m rows. m)) c.args.seat.now.me.0 c.load_part.new.seat.me.0 (λ p q goes one x. x.same) c.load_part.ensures.loaded
+returns-then-node-from-clause-looked g c = let of = c.args.of in seat_as g.S.Shape.allows (HasLoaded of.name (Member of.place) c.load_part.result) (RemembersAfter (λ m rows. m)) c.args.seat.now.me.0 c.load_part.new.seat.me.0 (λ p q goes one x. x.same) c.load_part.ensures.loaded
 
 pub returns-clause-looked : goal.returns-clause-looked
-returns-clause-looked g c = let of = c.args.of in let n = numbered Scx of.name in let found = c.is_let_go.result in
-    seat_on g.S.Shape.allows (HasLoaded of.name (Member of.place) c.load_part.result) (Remembers (λ m rows. if found then memory_with_note m n (DoneWith of.place) else m)) (Remembers (λ m rows. if found then memory_with_note m n (DoneWith of.place) else m)) c.args.seat.now.me.0 c.load_part.new.seat.me.0 c.is_let_go.new.seat.me.0
+returns-clause-looked g c = let of = c.args.of in let n = kind_number Scx of.name in let found = c.is_let_go.result in
+    seat_on g.S.Shape.allows (HasLoaded of.name (Member of.place) c.load_part.result) (RemembersAfter (λ m rows. if found then memory_with_note m n (DoneWith of.place) else m)) (RemembersAfter (λ m rows. if found then memory_with_note m n (DoneWith of.place) else m)) c.args.seat.now.me.0 c.load_part.new.seat.me.0 c.is_let_go.new.seat.me.0
     (λ p q r x e. e ∙ ap (λ (m : PassMemory). let k : PassMemory = if found then memory_with_note m n (DoneWith of.place) else m in k) x.same)
     c.load_part.ensures.loaded c.is_let_go.ensures.looked

@@ -4,7 +4,7 @@ use Rattle.histories.specs.Common.{IsOwnScx, Layout, State}
 use Rattle.histories.proofs.Lemmas.{own_scx_inside}
 use Rattle.arena.specs.declared.number.PassNo.{PassNo}
 use Rattle.forest.specs.declared.memory.PassMemory.{PassMemory}
-use Rattle.forest.specs.UpkeepBook.{Remembers, memory_with_note, numbered, record_numbered, slots_in}
+use Rattle.forest.specs.UpkeepBook.{RemembersAfter, memory_with_note, kind_number, record_numbered, slots_in}
 use Rattle.forest.specs.UpkeepScx.{HasLoaded, IsDoneTo}
 use Rattle.forest.specs.UpkeepSteps.{RestsOn}
 use Rattle.forest.specs.declared.memory.NoteView.TheVariants.{DoneWith, MarkedOrDead}
@@ -86,9 +86,9 @@ loop-place-preserved g c =
     let j = c.loop-place.place in
     let so = IsDoneTo t c.args.slot c.args.name c.count-place-end.result c.load_part-state.result c.load_part.result j in
     let on = from_pass allows so c.args.seat.now.me.0 c.loop-place.seat.me.0 r.0 r.2.alone x in
-    let n = numbered Scx c.args.name in
-    let looked = subst (λ (b : Bool). RestsOn allows (Remembers (λ m rows. if b then memory_with_note m n (DoneWith j) else m)) c.loop-place.seat.me.0 c.is_done.new.seat.me.0) c.if-not-is_done.false c.is_done.ensures.looked in
-    let next = from_pass allows (Remembers (λ m rows. memory_with_note m n (DoneWith j))) c.loop-place.seat.me.0 c.is_done.new.seat.me.0 x.later x.is looked in
+    let n = kind_number Scx c.args.name in
+    let looked = subst (λ (b : Bool). RestsOn allows (RemembersAfter (λ m rows. if b then memory_with_note m n (DoneWith j) else m)) c.loop-place.seat.me.0 c.is_done.new.seat.me.0) c.if-not-is_done.false c.is_done.ensures.looked in
+    let next = from_pass allows (RemembersAfter (λ m rows. memory_with_note m n (DoneWith j))) c.loop-place.seat.me.0 c.is_done.new.seat.me.0 x.later x.is looked in
     let all = rests_on allows r.0 x.later looked.later on.0 next.0 in
     let away = ap (λ (m : PassMemory). m.away) next.1 ∙ on.1.keeps.rests.away in
     let own = subst (λ (k : PassNo). IsOwnScx x.later.layout k.0 c.args.name) (sym on.0.number) (subst (λ (l : Layout). IsOwnScx l r.0.number.0 c.args.name) (sym (on.0.layout ∙ r.2.names)) r.5.own) in
@@ -134,11 +134,11 @@ returns-then-not-is_done-clause-looked g c =
     let t = slots_in c.args.words.now in
     let x = c.loop-place.invariant.so in
     let j = c.loop-place.place in
-    let n = numbered Scx c.args.name in
+    let n = kind_number Scx c.args.name in
     let so = IsDoneTo t c.args.slot c.args.name c.count-place-end.result c.load_part-state.result c.load_part.result j in
     let on = from_pass allows so c.args.seat.now.me.0 c.loop-place.seat.me.0 r.0 r.2.alone x in
-    let looked = subst (λ (b : Bool). RestsOn allows (Remembers (λ m rows. if b then memory_with_note m n (DoneWith j) else m)) c.loop-place.seat.me.0 c.is_done.new.seat.me.0) c.if-not-is_done.true c.is_done.ensures.looked in
-    let next = from_pass allows (Remembers (λ m rows. m)) c.loop-place.seat.me.0 c.is_done.new.seat.me.0 x.later x.is looked in
+    let looked = subst (λ (b : Bool). RestsOn allows (RemembersAfter (λ m rows. if b then memory_with_note m n (DoneWith j) else m)) c.loop-place.seat.me.0 c.is_done.new.seat.me.0) c.if-not-is_done.true c.is_done.ensures.looked in
+    let next = from_pass allows (RemembersAfter (λ m rows. m)) c.loop-place.seat.me.0 c.is_done.new.seat.me.0 x.later x.is looked in
     let all = rests_on allows r.0 x.later looked.later on.0 next.0 in
     record {
       pass = r.0;
@@ -159,11 +159,11 @@ returns-clause-looked g c =
     let t = slots_in c.args.words.now in
     let x = c.loop-place.invariant.so in
     let j = c.loop-place.place in
-    let n = numbered Scx c.args.name in
+    let n = kind_number Scx c.args.name in
     let so = IsDoneTo t c.args.slot c.args.name c.count-place-end.result c.load_part-state.result c.load_part.result j in
     let on = from_pass allows so c.args.seat.now.me.0 c.loop-place.seat.me.0 r.0 r.2.alone x in
     let looked = c.note_over.ensures.looked in
-    let next = from_pass allows (Remembers (λ m rows. memory_with_note m n (MarkedOrDead rows))) c.loop-place.seat.me.0 c.note_over.new.seat.me.0 x.later x.is looked in
+    let next = from_pass allows (RemembersAfter (λ m rows. memory_with_note m n (MarkedOrDead rows))) c.loop-place.seat.me.0 c.note_over.new.seat.me.0 x.later x.is looked in
     let all = rests_on allows r.0 x.later looked.later on.0 next.0 in
     record {
       pass = r.0;

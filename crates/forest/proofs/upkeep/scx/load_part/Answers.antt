@@ -1,7 +1,7 @@
 use Rattle.std.proofs.Common.{refl, sym, ◌∙◌}
 use Rattle.histories.specs.Common.{scx}
 use Rattle.histories.proofs.Lemmas.{own_scx_inside}
-use Rattle.forest.specs.UpkeepBook.{numbered, slots_in}
+use Rattle.forest.specs.UpkeepBook.{kind_number, slots_in}
 use Rattle.forest.specs.UpkeepScx.{LearnsPart}
 use Rattle.forest.specs.LastingRule.{LoadsWord}
 use Rattle.forest.specs.declared.upkeep.kind.RecordKind.TheVariants.{Scx}
@@ -25,7 +25,7 @@ load_with-requires-clause-may g c =
     upkeep_allows allows site turns.turns turns.comes_back c.args.words.now.table.shared.table_id.slots c.args.seat.now.id c.args.seat.now.me _ c.place-at.result (λ n. n) (λ n w. LoadsWord allows r.0 (scx of.name of.part) n c.args.seat.now.me.0 w) (λ n w. LearnsPart allows of.name of.part c.args.seat.now.me.0 n w)
     (scx_in_slot t c.args.layout.now c.args.slot of.name of.part (table_in c.args.words.now c.args.layout.now c.args.seat.now r.0 r.1) r.3.slot_is ∙ sym c.place-at.ensures.place)
     (λ n w x. (r.0, r.1.alone, x))
-    (c.sights_last.ensures.loads t site.planting c.args.words.now.table.shared.table_id.slots c.args.seat.now.id c.args.seat.now.me r.0 (numbered Scx of.name) (scx of.name of.part) r.1.alone is_pass r.3.held refl (own_scx_inside t.lay r.0.number.0 of.name is_pass r.3.own, c.requires.part))
+    (c.sights_last.ensures.loads t site.planting c.args.words.now.table.shared.table_id.slots c.args.seat.now.id c.args.seat.now.me r.0 (kind_number Scx of.name) (scx of.name of.part) r.1.alone is_pass r.3.held refl (own_scx_inside t.lay r.0.number.0 of.name is_pass r.3.own, c.requires.part))
 
 pub returns-clause-loaded : goal.returns-clause-loaded
 returns-clause-loaded g c = part_learnt g.S.Shape.allows c.args.of.name c.args.of.part c.args.seat.now.me.0 c.load_with.new.seat.me.0 c.load_with.result c.load_with.ensures.learnt

@@ -1,10 +1,10 @@
 use Rattle.std.proofs.Common.{Bool, if◌then◌else◌, [], sym, subst}
 use Rattle.slots.specs.Lasting.{IsOwnRecord, IsTaken}
 use Rattle.forest.specs.TableRule.{past_of}
-use Rattle.forest.specs.UpkeepBook.{IsNameIn, KnowsNow, Remembers, memory_with_note, numbered, record_numbered, slots_in}
+use Rattle.forest.specs.UpkeepBook.{IsNameIn, KnowsNow, RemembersAfter, memory_with_note, kind_number, record_numbered, slots_in}
 use Rattle.forest.specs.UpkeepSteps.{RestsOn}
 use Rattle.forest.specs.declared.memory.NoteView.TheVariants.{MarkedOrDead}
-use Rattle.forest.specs.declared.upkeep.book.Known.TheVariants.{Found, Used}
+use Rattle.forest.specs.declared.upkeep.book.SlotState.TheVariants.{Found, Used}
 use Rattle.forest.specs.declared.upkeep.kind.RecordKind.{RecordKind}
 use Rattle.forest.specs.declared.upkeep.kind.RecordKind.TheVariants.{Node, Scx}
 use Rattle.forest.proofs.UpkeepTurn.{as_known, marked_now, unmarked_now}
@@ -23,14 +23,14 @@ pub returns-then-is_marked-clause-looked : goal.returns-then-is_marked-clause-lo
 returns-then-is_marked-clause-looked g c = let r = c.requires.pass in let allows = g.S.Shape.allows in let t = slots_in c.args.words.now in
     as_known allows t c.args.kind c.args.slot record { name = c.args.name; known = Found } c.args.seat.now.me.0 c.is_marked.new.seat.me.0 _ r.0 r.1.alone
     (λ q goes e. marked_now t c.args.kind c.args.slot allows r.0 q goes c.args.name r.3 e)
-    (subst (λ (b : Bool). RestsOn allows (Remembers (λ m rows. if b then memory_with_note m (numbered c.args.kind c.args.name) (MarkedOrDead rows) else m)) c.args.seat.now.me.0 c.is_marked.new.seat.me.0) c.if-is_marked.true
-    (subst (λ (k : RecordKind). RestsOn allows (Remembers (λ m rows. if c.is_marked.result then memory_with_note m (numbered k c.args.name) (MarkedOrDead rows) else m)) c.args.seat.now.me.0 c.is_marked.new.seat.me.0) (sym c.in-Node.is) c.is_marked.ensures.looked))
+    (subst (λ (b : Bool). RestsOn allows (RemembersAfter (λ m rows. if b then memory_with_note m (kind_number c.args.kind c.args.name) (MarkedOrDead rows) else m)) c.args.seat.now.me.0 c.is_marked.new.seat.me.0) c.if-is_marked.true
+    (subst (λ (k : RecordKind). RestsOn allows (RemembersAfter (λ m rows. if c.is_marked.result then memory_with_note m (kind_number k c.args.name) (MarkedOrDead rows) else m)) c.args.seat.now.me.0 c.is_marked.new.seat.me.0) (sym c.in-Node.is) c.is_marked.ensures.looked))
 
 pub returns-else-is_marked-clause-looked : goal.returns-else-is_marked-clause-looked
 returns-else-is_marked-clause-looked g c = let r = c.requires.pass in let allows = g.S.Shape.allows in let t = slots_in c.args.words.now in
     as_known allows t c.args.kind c.args.slot record { name = c.args.name; known = Used } c.args.seat.now.me.0 c.is_marked.new.seat.me.0 _ r.0 r.1.alone
     (λ q goes e. unmarked_now t c.args.kind c.args.slot allows r.0 q goes c.args.name r.3 e)
-    (subst (λ (b : Bool). RestsOn allows (Remembers (λ m rows. if b then memory_with_note m (numbered Node c.args.name) (MarkedOrDead rows) else m)) c.args.seat.now.me.0 c.is_marked.new.seat.me.0) c.if-is_marked.false c.is_marked.ensures.looked)
+    (subst (λ (b : Bool). RestsOn allows (RemembersAfter (λ m rows. if b then memory_with_note m (kind_number Node c.args.name) (MarkedOrDead rows) else m)) c.args.seat.now.me.0 c.is_marked.new.seat.me.0) c.if-is_marked.false c.is_marked.ensures.looked)
 
 pub is_over-requires-clause-pass : goal.is_over-requires-clause-pass
 is_over-requires-clause-pass g c = let r = c.requires.pass in let p = r.0 in (

@@ -1,5 +1,5 @@
 use Rattle.std.proofs.Common.{◌≡◌, ◌≢◌, sym, ◌∙◌, subst}
-use Rattle.forest.specs.UpkeepBook.{HasTakenBelow, HasTurned, slots_in}
+use Rattle.forest.specs.UpkeepBook.{HasTakenBelow, HasTurnedSlots, slots_in}
 use Rattle.forest.specs.declared.upkeep.kind.RecordKind.{RecordKind}
 use Rattle.forest.specs.declared.upkeep.kind.RecordKind.TheVariants.{Node, Scx}
 use Rattle.forest.proofs.UpkeepBook.{rests_on as memory_on}
@@ -30,7 +30,7 @@ turn_all-requires-2-clause-pass g c =
     let r = c.requires in
     let allows = g.S.Shape.allows in
     let t = slots_in c.args.words.now in
-    let so = HasTurned t c.turn_all.new.own in
+    let so = HasTurnedSlots t c.turn_all.new.own in
     let x = c.turn_all.ensures.turned in
     let on = from_pass allows so c.args.seat.now.me.0 c.turn_all.new.seat.me.0 r.0 r.2.alone x in
     let left = left_on allows r.0 x.later c.args.share.now on.0 on.1.rests.away r.4 in (
@@ -50,9 +50,9 @@ returns-clause-turned g c =
     let allows = g.S.Shape.allows in
     let t = slots_in c.args.words.now in
     let x = c.turn_all.ensures.turned in
-    let on = from_pass allows (HasTurned t c.turn_all.new.own) c.args.seat.now.me.0 c.turn_all.new.seat.me.0 r.0 r.2.alone x in
+    let on = from_pass allows (HasTurnedSlots t c.turn_all.new.own) c.args.seat.now.me.0 c.turn_all.new.seat.me.0 r.0 r.2.alone x in
     let y = c.turn_all-2.ensures.turned in
-    let next = from_pass allows (HasTurned t c.turn_all-2.new.own) c.turn_all.new.seat.me.0 c.turn_all-2.new.seat.me.0 x.later x.is y in
+    let next = from_pass allows (HasTurnedSlots t c.turn_all-2.new.own) c.turn_all.new.seat.me.0 c.turn_all-2.new.seat.me.0 x.later x.is y in
     let node = c.turn_all.ensures.same.kind ∙ r.5.node_kind in
     let scx = c.turn_all-2.ensures.same.kind ∙ r.5.scx_kind in
     record {
