@@ -73,11 +73,32 @@ impl Says for Brand {
     ghost said = { look };
 }
 
+/// What the maker of a step that is of no call comes to know by it. Each call of a method of the
+/// table picks it.
+pub trait Learns {
+    ghost use Rattle.std.specs.Prelude.{ℕ};
+    ghost use Rattle.forest.specs.declared.view.SeatView.{SeatView};
+
+    /// What the seat knew, the number that the step has found or stored, and what the seat knows.
+    ghost learns: { SeatView → ℕ → SeatView → Type 0 };
+}
+
+impl Learns for Brand {
+    ghost learns = { λ v n w. w ≡ v };
+}
+
 /// The step of a seat with one pass.
 pub struct Makes<S, J>(PhantomData<(S, J)>);
 
 impl<S: Shape, J: Says> Play<u8, SeatView> for Makes<S, J> {
     ghost then = { λ st v n w. Made S.allows J.said v.0.passes n w.0.passes × (w.1 ≡ v.1) };
+}
+
+/// A step of a seat that is of no call.
+pub struct Teaches<J>(PhantomData<J>);
+
+impl<J: Learns> Play<u8, SeatView> for Teaches<J> {
+    ghost then = { λ st v n w. J.learns v.0 n w.0 × (w.1 ≡ v.1) };
 }
 
 /// The step of a seat with two passes, by the first, which is then the second.

@@ -3,7 +3,7 @@
 //! Nothing else can be written outside this module, so that a call's rows are all that it has done.
 ghost use Rattle.std.specs.Prelude.{◌≡◌, ◌<◌, ◌≤◌, ◌++◌, ℕ, [], ◌∷◌, None, IfOk};
 ghost use Rattle.std.specs.Slots.{IsFull, slots_len, slots_items};
-ghost use Rattle.atomic_table.specs.Table.{Final, Seen};
+ghost use Rattle.atomic_table.specs.Table.{Allows, Final, Seen};
 ghost use Rattle.arena.specs.History.{Opened};
 ghost use Rattle.arena.specs.Layout.{IsMap, table_size};
 ghost use Rattle.arena.specs.Machines.{IsRun};
@@ -15,7 +15,7 @@ ghost use Rattle.forest.specs.Ruled.{IsRuled, MayLast};
 ghost use Rattle.forest.specs.Slotted.{plot_at, slots_of_table};
 ghost use Rattle.forest.specs.TableRule.{IsPlaceOf, IsTableOf, MayStep, Made, Looked, look, new_passes, rest_of, first_of};
 
-use crate::rule::{Both, CallStep, Deal, Lawful, Looks, Makes, Says, Site};
+use crate::rule::{Both, CallStep, Deal, Lawful, Learns, Looks, Makes, Says, Site, Teaches};
 use crate::view::SeatView;
 use arena::{Access, Layout, NoMemory, NodeNo, NodeWord, SettledPart, Shape, Word};
 use atomic_table::{Closed, Seat, Table};
@@ -83,6 +83,48 @@ impl<S: Shape> Words<S> {
                 shared.compare_exchange::<Makes<S, J>>(seat, at, expected, new)
             }
         }
+    }
+
+    /// Loads what is at a place, in a step that is of no call and that the rule of the table allows,
+    /// and answers it. What the step is about is there for the caller, who picks by it what is
+    /// learnt.
+    #[inline(always)]
+    pub(crate) fn load_with<J: Learns, A: Copy>(
+        &self,
+        seat: &mut Seat<u8, SeatView>,
+        at: usize,
+        about: A,
+    ) -> u64
+        requires table { seat.old.table_id ≡ self.now.table.shared.table_id }
+        requires inside { at < self.now.table.shared.table_id.words }
+        requires may { Allows (IsRuled S.allows self.now.table.shared.key)
+            self.now.table.shared.table_id.slots seat.old.id seat.old.me at (λ n. n)
+            (λ n w. J.learns seat.old.me.0 n w.0 × (w.1 ≡ seat.old.me.1)) }
+        ensures table { StaysAtTable seat.old seat.new }
+        ensures learnt { J.learns seat.old.me.0 result seat.new.me.0 }
+    {
+        self.table.shared.load::<Teaches<J>>(seat, at)
+    }
+
+    /// Stores a number at a place, in a step that is of no call and that the rule of the table
+    /// allows. What the step is about is there for the caller.
+    #[inline(always)]
+    pub(crate) fn store_with<J: Learns, A: Copy>(
+        &self,
+        seat: &mut Seat<u8, SeatView>,
+        at: usize,
+        new: u64,
+        about: A,
+    )
+        requires table { seat.old.table_id ≡ self.now.table.shared.table_id }
+        requires inside { at < self.now.table.shared.table_id.words }
+        requires may { Allows (IsRuled S.allows self.now.table.shared.key)
+            self.now.table.shared.table_id.slots seat.old.id seat.old.me at (λ n. new)
+            (λ n w. J.learns seat.old.me.0 new w.0 × (w.1 ≡ seat.old.me.1)) }
+        ensures table { StaysAtTable seat.old seat.new }
+        ensures learnt { J.learns seat.old.me.0 new seat.new.me.0 }
+    {
+        self.table.shared.store::<Teaches<J>>(seat, at, new);
     }
 
     /// A look at the table by the only pass of a seat, which is no step of a call.
