@@ -61,3 +61,5 @@ mod LastingDeals
 mod LastingSees
 mod LastingTrees
 mod LastingFinished
+mod UpkeepSteps
+mod UpkeepPeriod

@@ -39,3 +39,5 @@ pub mod LastingNames
 pub mod LastingRule
 pub mod LastingOpening
 pub mod Ruled
+pub mod UpkeepSteps
+pub mod UpkeepPeriod

@@ -18,6 +18,7 @@ mod pass;
 mod rule;
 mod steps;
 mod straight;
+mod upkeep;
 mod view;
 mod words;
 
