@@ -8,7 +8,7 @@ use Rattle.histories.specs.Common.{Layout, Row, History, Extends}
 use Rattle.planting.specs.Plantings.{PlantingView}
 use Rattle.forest.specs.LastingNotes.{HasSeenAllRest, IsAmongThese, memory_looked, memory_polled, waits_of}
 use Rattle.forest.specs.TableRule.{history_of}
-use Rattle.forest.specs.UpkeepSteps.{HasGoneOnResting, KeepsSlots}
+use Rattle.forest.specs.UpkeepSteps.{HasGoneOnResting, KeepsSlots, RemembersRest}
 use Rattle.forest.specs.UpkeepPeriod.{BeginsPeriod, HasLookedAgain, HasLookedFirst, HasPolledOnce, IsOver, IsPeriod, IsPolledSince, PollsOn, last_poll, poll_of, waits_at}
 use Rattle.forest.specs.declared.memory.PassMemory.{PassMemory}
 use Rattle.forest.specs.declared.memory.Polled.{Polled}
@@ -136,6 +136,15 @@ module _ (allows : Layout → History → ℕ → Type 0) (p q : SeatedPass) (go
       look rows y =
           let polled : IsPolledSince p rows k (Some seen) = subst (IsPolledSince p rows k) is (y.polled k (y.others k seen is).0 (y.others k seen is).1) in
           (polled, x polled.moment polled.last)
+
+-- a rest in a period is one since it began
+pub rests_since : (allows : Layout → History → ℕ → Type 0) (p q : SeatedPass) → HasGoneOnResting allows p q → RemembersRest p q → (count : ℕ) (rows : List Row) (period : Period) → IsPeriod count p rows period → IsPeriod count q rows period × (q.memory.away ≡ false) × Extends (history_of q.planting q.memory.rested) (history_of q.planting rows)
+rests_since allows p q goes is count rows period x =
+    let now : IsPeriod count q rows period = period_stays p q goes.number goes.planting count rows period (knows_more allows p q goes) (ap (λ (m : PassMemory). m.polls) is) x in (
+      now,
+      ap (λ (m : PassMemory). m.away) is,
+      subst (λ l. Extends (history_of q.planting l) (history_of q.planting rows)) (sym (ap (λ (m : PassMemory). m.rested) is)) now.began,
+    )
 
 -- where no step is made
 pub passes_over : (p : SeatedPass) (old : Period) → PollsOn p.number.0 (p.number.0 + 1) old old p p

@@ -10,7 +10,7 @@ use Rattle.forest.specs.LastingRule.{LearnsWith, TableLasts}
 use Rattle.forest.specs.Ruled.{IsRuled, ruled_by}
 use Rattle.forest.specs.Slotted.{names_of_table, slots_by, slots_of_table}
 use Rattle.forest.specs.TableRule.{ByOthers, history_of, seated_pass}
-use Rattle.forest.specs.UpkeepSteps.{HasGoneOnResting, IsLastingTable, RestsOn}
+use Rattle.forest.specs.UpkeepSteps.{HasGoneOnResting, IsLastingTable, LearnsFrom, RestsOn}
 use Rattle.arena.specs.declared.number.PassNo.{PassNo}
 use Rattle.forest.specs.declared.memory.PassMemory.{PassMemory}
 use Rattle.forest.specs.declared.rule.Site.{Site}
@@ -51,9 +51,12 @@ counts_at site lay k same = ap (λ l. rests_place l k) (table_is site.layout sit
 pub counts_inside : (id : TableId) (site : Site) (lay : Layout) → IsLastingTable id site lay → (k : ℕ) → k < lay.passes → rests_place lay k < id.words
 counts_inside id site lay last k inside = let room = last.room in omega (arith, room)
 
--- it is one of the passes of its names
+-- the pass is one of those that the layout of the names has
 pub is_pass_of : (id : TableId) (site : Site) (lay : Layout) → IsLastingTable id site lay → (k : ℕ) → k < lay.passes → k < (names_of_table site).passes
 is_pass_of id site lay last k = subst (λ n. k < n) (sym (passes_of_table site ∙ ap (λ (l : Layout). l.passes) last.layout))
+
+pub is_own_pass : (id : TableId) (site : Site) (lay : Layout) → IsLastingTable id site lay → (p : SeatedPass) (number : PassNo) → p.number ≡ number → number.0 < lay.passes → p.number.0 < (names_of_table site).passes
+is_own_pass id site lay last p number same inside = subst (λ (n : PassNo). n.0 < (names_of_table site).passes) (sym same) (is_pass_of id site lay last number.0 inside)
 
 -- one pass after another
 
@@ -111,3 +114,15 @@ module _ (allows : Layout → History → ℕ → Type 0) where
       let goes : HasGoneOnResting allows p q = subst (λ z. HasGoneOnResting allows z q) (same_pass v.passes p x.pass one x.was)
       record { number = refl; layout = refl; planting = refl; others = x.others; by_others = x.by_others; known = x.rows_are; sound = λ run. subst (λ l. IsRun allows x.pass.layout (history_of x.pass.planting l)) (sym x.rows_are) x.run } in
       record { pass = p; later = q; was = one; is = x.is; goes_on = goes; holds = to q goes refl }
+
+  -- so it is where what it remembers is made of what it remembered
+  pub seat_from : (after : PassMemory → List Row → PassMemory) (so : SeatedPass → SeatedPass → Type 0) (v w : SeatView) → LearnsFrom allows after v w → ((p q : SeatedPass) → HasGoneOnResting allows p q → q.memory ≡ after p.memory q.known → so p q) → RestsOn allows so v w
+  seat_from after so v w x to = seat_learns (after x.0.memory) so x.0 v w x.1 x.2 (to x.0)
+
+  -- what a pass may store at the place at which it counts its rests
+  pub own_place_allows : (after : PassMemory → List Row → PassMemory) (id : TableId) (site : Site) (lay : Layout) → IsLastingTable id site lay → (slots seat : ℕ) (me : Me ℕ SeatView) (p : SeatedPass) → me.0.passes ≡ p ∷ [] → (number : PassNo) → p.number ≡ number → (at new stored : ℕ) → at ≡ rests_place lay number.0 → new ≡ stored → Allows (TableLasts allows (slots_of_table site) site.planting) slots seat me (rests_place (slots_of_table site).table p.number.0) (λ _. new) (λ n w. LearnsWith allows (after p.memory) me.0 w.0 × (w.1 ≡ me.1)) → Allows (IsRuled allows site) slots seat me at (λ _. stored) (λ n w. LearnsFrom allows after me.0 w.0 × (w.1 ≡ me.1))
+  own_place_allows after id site lay last slots seat me p one number same at new stored there is may =
+      subst (λ v. Allows (IsRuled allows site) slots seat me at (λ _. v) (λ n w. LearnsFrom allows after me.0 w.0 × (w.1 ≡ me.1))) is
+      (upkeep_allows allows site last.turns last.comes_back slots seat me (rests_place (slots_of_table site).table p.number.0) at (λ _. new) (λ n w. LearnsWith allows (after p.memory) me.0 w) (λ n w. LearnsFrom allows after me.0 w)
+      (ap (λ (n : PassNo). rests_place (slots_of_table site).table n.0) same ∙ counts_at site lay number.0 last.layout ∙ sym there)
+      (λ n w x. (p, one, x)) may)

@@ -4,6 +4,7 @@ use Rattle.atomic_table.specs.Seated.{TableId}
 use Rattle.atomic_table.specs.declared.shared.Seat.{Seat}
 use Rattle.histories.specs.Common.{Layout, Row, History, IsRun, table_size}
 use Rattle.forest.specs.LastingNotes.{memory_away, memory_rested}
+use Rattle.forest.specs.LastingRule.{LearnsWith}
 use Rattle.forest.specs.TableRule.{ByOthers, past_of}
 use Rattle.forest.specs.declared.memory.PassMemory.{PassMemory}
 use Rattle.forest.specs.declared.rule.Site.{Site}
@@ -43,6 +44,11 @@ pub record RestsOn (allows : Layout → History → ℕ → Type 0) (so : Seated
   pub is : w.passes ≡ later ∷ []
   pub goes_on : HasGoneOnResting allows pass later
   pub holds : so pass later
+
+-- The only pass of a seat has come to know the run, and remembers by then what `after` makes of what
+-- it remembered and of the run.
+abbrev pub LearnsFrom : (Layout → History → ℕ → Type 0) → (PassMemory → List Row → PassMemory) → SeatView → SeatView → Type 0
+LearnsFrom allows after v w = (p : SeatedPass) × (v.passes ≡ p ∷ []) × LearnsWith allows (after p.memory) v w
 
 -- the pass, which is q now, has rested after all that it knows, and remembers all else as before
 abbrev pub RemembersRest : SeatedPass → SeatedPass → Type 0

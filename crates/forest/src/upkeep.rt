@@ -15,9 +15,10 @@ use arena::{Layout, PassNo, Shape};
 use atomic_table::Seat;
 use std::marker::Brand;
 
-mod period;
+pub(crate) mod period;
 
-/// How often a pass rests at most, so that twice as much fits its word.
+/// How often a pass rests at most, so that twice as much fits a word: many more times than any
+/// program has time for.
 pub(crate) const MOST_RESTS: u64 = 4_611_686_018_427_387_904;
 
 /// Where a pass counts its rests: behind the words of all records each pass has a line of the cache

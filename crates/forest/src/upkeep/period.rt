@@ -177,8 +177,8 @@ impl Period {
         }
     }
 
-    /// The first pass that is waited for: as long as it neither rests nor goes away, nothing that
-    /// was found in use by then comes back.
+    /// The first pass that is waited for: until it rests or goes away, nothing comes back that was
+    /// found before the period began.
     pub(crate) fn waits_for(&self) -> Option<PassNo>
         ensures { MatchOption result (IsOver self.now) (λ other. IsFirstWaited self.now other.0) }
     {
