@@ -9,7 +9,7 @@ use Rattle.planting.specs.Plantings.{PlantingView}
 use Rattle.forest.specs.LastingNotes.{HasSeenAllRest, IsAmongThese, memory_looked, memory_polled, waits_of}
 use Rattle.forest.specs.TableRule.{history_of}
 use Rattle.forest.specs.UpkeepSteps.{HasGoneOnResting, KeepsSlots, RemembersRest}
-use Rattle.forest.specs.UpkeepPeriod.{BeginsPeriod, HasLookedAgain, HasLookedFirst, HasPolledOnce, IsOver, IsPeriod, IsPolledSince, PollsOn, last_poll, poll_of, waits_at}
+use Rattle.forest.specs.UpkeepPeriod.{BeginsPeriod, HasLookedAgain, HasLookedFirst, HasPolledOnce, WaitsForNobody, HasPeriod, IsPolledSince, PollsOn, last_poll, poll_of, waited_for}
 use Rattle.forest.specs.declared.memory.PassMemory.{PassMemory}
 use Rattle.forest.specs.declared.memory.Polled.{Polled}
 use Rattle.forest.specs.declared.upkeep.period.Period.{Period}
@@ -65,8 +65,8 @@ same_moment_of : (k seen : ℕ) (one other : List Row) (polls : List Polled) →
 unfolding moment_of
 same_moment_of k seen one other polls x y = ap moment_of (sym x ∙ y)
 
-pub looks_again : (k n seen : ℕ) (moment : List Row) (p q : SeatedPass) → last_poll k p.memory.polls ≡ Some (poll_of k moment (Some seen)) → q.memory ≡ memory_polled p.memory (poll_of k moment (Some seen)) seen n → HasLookedAgain k seen (if n == 2 * seen then Some seen else None) p q
-looks_again k n seen moment p q last e other is = subst (λ l. HasPolledOnce k (poll_of k l (if n == 2 * seen then Some seen else None)) p q) (same_moment_of k seen moment other p.memory.polls last is) (looked_again k n seen moment p q last e)
+pub looked_so_again : (k n seen : ℕ) (moment : List Row) (p q : SeatedPass) → last_poll k p.memory.polls ≡ Some (poll_of k moment (Some seen)) → q.memory ≡ memory_polled p.memory (poll_of k moment (Some seen)) seen n → HasLookedAgain k seen (if n == 2 * seen then Some seen else None) p q
+looked_so_again k n seen moment p q last e other is = subst (λ l. HasPolledOnce k (poll_of k l (if n == 2 * seen then Some seen else None)) p q) (same_moment_of k seen moment other p.memory.polls last is) (looked_again k n seen moment p q last e)
 
 -- Periods
 
@@ -81,7 +81,7 @@ module _ (p q : SeatedPass) (number : q.number ≡ p.number) (planting : q.plant
   as_later k = subst (λ (n : PassNo). k ≢ n.0) (sym number)
 
   -- A period goes on as the pass knows more, and remembers its polls.
-  pub period_stays : (count : ℕ) (rows : List Row) (period : Period) → Extends (history_of q.planting q.known) (history_of q.planting p.known) → q.memory.polls ≡ p.memory.polls → IsPeriod count p rows period → IsPeriod count q rows period
+  pub period_stays : (count : ℕ) (rows : List Row) (period : Period) → Extends (history_of q.planting q.known) (history_of q.planting p.known) → q.memory.polls ≡ p.memory.polls → HasPeriod count p rows period → HasPeriod count q rows period
   period_stays count rows period more same x = record {
     began = ends_trans (history_of q.planting q.known) (history_of q.planting p.known) (history_of q.planting rows) more (as_now p.known rows x.began);
     polled = λ k i d. let y = x.polled k i (as_then k d) in record { moment = y.moment; last = ap (last_poll k) same ∙ y.last; since = as_now y.moment rows y.since };
@@ -89,27 +89,27 @@ module _ (p q : SeatedPass) (number : q.number ≡ p.number) (planting : q.plant
   }
 
   -- and as it polls one more pass, or again
-  module _ (from to k : ℕ) (waits : Option ℕ) (old new : Period) (inside : k < to) (other : k ≢ p.number.0) (few : (j : ℕ) → j < to → j ≢ k → j < from) (more : (j : ℕ) → j < from → j < to) (at : waits_at new k ≡ waits) (rest : (j : ℕ) → j ≢ k → waits_at new j ≡ waits_at old j) (same : (j : ℕ) → j ≢ k → last_poll j q.memory.polls ≡ last_poll j p.memory.polls) where
-    pub period_polled : (rows : List Row) → Extends (history_of q.planting q.known) (history_of q.planting p.known) → IsPolledSince q rows k waits → IsPeriod from p rows old → IsPeriod to q rows new
+  module _ (from to k : ℕ) (waits : Option ℕ) (old new : Period) (inside : k < to) (other : k ≢ p.number.0) (few : (j : ℕ) → j < to → j ≢ k → j < from) (more : (j : ℕ) → j < from → j < to) (at : waited_for new k ≡ waits) (rest : (j : ℕ) → j ≢ k → waited_for new j ≡ waited_for old j) (same : (j : ℕ) → j ≢ k → last_poll j q.memory.polls ≡ last_poll j p.memory.polls) where
+    pub period_polled : (rows : List Row) → Extends (history_of q.planting q.known) (history_of q.planting p.known) → IsPolledSince q rows k waits → HasPeriod from p rows old → HasPeriod to q rows new
     period_polled rows knows here x = record {
       began = ends_trans (history_of q.planting q.known) (history_of q.planting p.known) (history_of q.planting rows) knows (as_now p.known rows x.began);
       polled = λ j i d. polled j i d (ℕ_discrete j k);
       others = λ j often e. others j often e (ℕ_discrete j k);
     }
       where
-        polled : (j : ℕ) → j < to → j ≢ q.number.0 → Dec (j ≡ k) → IsPolledSince q rows j (waits_at new j)
-        polled j i d (yes e) = subst (λ l. IsPolledSince q rows l (waits_at new l)) (sym e) (subst (IsPolledSince q rows k) (sym at) here)
+        polled : (j : ℕ) → j < to → j ≢ q.number.0 → Dec (j ≡ k) → IsPolledSince q rows j (waited_for new j)
+        polled j i d (yes e) = subst (λ l. IsPolledSince q rows l (waited_for new l)) (sym e) (subst (IsPolledSince q rows k) (sym at) here)
         polled j i d (no n) = let y = x.polled j (few j i n) (as_then j d) in subst (IsPolledSince q rows j) (sym (rest j n)) record { moment = y.moment; last = same j n ∙ y.last; since = as_now y.moment rows y.since }
 
-        others : (j often : ℕ) → waits_at new j ≡ Some often → Dec (j ≡ k) → (j < to) × (j ≢ q.number.0)
+        others : (j often : ℕ) → waited_for new j ≡ Some often → Dec (j ≡ k) → (j < to) × (j ≢ q.number.0)
         others j often e (yes is) = subst (λ l. (l < to) × (l ≢ q.number.0)) (sym is) (inside, as_later k other)
         others j often e (no n) = let y = x.others j often (sym (rest j n) ∙ e) in (more j y.0, as_later j y.1)
 
 -- what is written in a period
-pub waits_same : (period new : Period) (k : ℕ) (waits : Option ℕ) → new.waits ≡ set period.waits k waits → k < length period.waits → waits_at new k ≡ waits
+pub waits_same : (period new : Period) (k : ℕ) (waits : Option ℕ) → new.waits ≡ set period.waits k waits → k < length period.waits → waited_for new k ≡ waits
 waits_same period new k waits e inside = ap (λ l. get_or l k None) e ∙ get_or-set_same period.waits k waits None inside
 
-pub waits_other : (period new : Period) (k : ℕ) (waits : Option ℕ) → new.waits ≡ set period.waits k waits → (j : ℕ) → j ≢ k → waits_at new j ≡ waits_at period j
+pub waits_other : (period new : Period) (k : ℕ) (waits : Option ℕ) → new.waits ≡ set period.waits k waits → (j : ℕ) → j ≢ k → waited_for new j ≡ waited_for period j
 waits_other period new k waits e j d = ap (λ l. get_or l j None) e ∙ get_or-set_other period.waits k j waits None d
 
 module _ (allows : Layout → History → ℕ → Type 0) (p q : SeatedPass) (goes : HasGoneOnResting allows p q) where
@@ -123,8 +123,8 @@ module _ (allows : Layout → History → ℕ → Type 0) (p q : SeatedPass) (go
   }
 
   -- and another, at a pass that was waited for
-  pub asks : (count k seen : ℕ) (waits : Option ℕ) (old new : Period) → waits_at old k ≡ Some seen → new.waits ≡ set old.waits k waits → k < length old.waits → (rows : List Row) → IsPeriod count p rows old → HasLookedAgain k seen waits p q → PollsOn count count old new p q
-  asks count k seen waits old new is e inside some period x = record {
+  pub asked_again : (count k seen : ℕ) (waits : Option ℕ) (old new : Period) → waited_for old k ≡ Some seen → new.waits ≡ set old.waits k waits → k < length old.waits → (rows : List Row) → HasPeriod count p rows old → HasLookedAgain k seen waits p q → PollsOn count count old new p q
+  asked_again count k seen waits old new is e inside some period x = record {
     keeps = (look some period).1.keeps;
     period = λ rows y. let z = look rows y in
         period_polled p q goes.number goes.planting count count k waits old new (y.others k seen is).0 (y.others k seen is).1 (λ j i d. i) (λ j i. i) (waits_same old new k waits e inside) (waits_other old new k waits e) z.1.others rows (knows_more allows p q goes)
@@ -132,23 +132,27 @@ module _ (allows : Layout → History → ℕ → Type 0) (p q : SeatedPass) (go
         y;
   }
     where
-      look : (rows : List Row) → IsPeriod count p rows old → (y : IsPolledSince p rows k (Some seen)) × HasPolledOnce k (poll_of k y.moment waits) p q
+      look : (rows : List Row) → HasPeriod count p rows old → (y : IsPolledSince p rows k (Some seen)) × HasPolledOnce k (poll_of k y.moment waits) p q
       look rows y =
           let polled : IsPolledSince p rows k (Some seen) = subst (IsPolledSince p rows k) is (y.polled k (y.others k seen is).0 (y.others k seen is).1) in
           (polled, x polled.moment polled.last)
 
+-- a step of upkeep leaves a period that leaves the polls
+pub period_goes_on : (allows : Layout → History → ℕ → Type 0) (p q : SeatedPass) → HasGoneOnResting allows p q → q.memory.polls ≡ p.memory.polls → (count : ℕ) (rows : List Row) (period : Period) → HasPeriod count p rows period → HasPeriod count q rows period
+period_goes_on allows p q goes same count rows period = period_stays p q goes.number goes.planting count rows period (knows_more allows p q goes) same
+
 -- a rest in a period is one since it began
-pub rests_since : (allows : Layout → History → ℕ → Type 0) (p q : SeatedPass) → HasGoneOnResting allows p q → RemembersRest p q → (count : ℕ) (rows : List Row) (period : Period) → IsPeriod count p rows period → IsPeriod count q rows period × (q.memory.away ≡ false) × Extends (history_of q.planting q.memory.rested) (history_of q.planting rows)
+pub rests_since : (allows : Layout → History → ℕ → Type 0) (p q : SeatedPass) → HasGoneOnResting allows p q → RemembersRest p q → (count : ℕ) (rows : List Row) (period : Period) → HasPeriod count p rows period → HasPeriod count q rows period × (q.memory.away ≡ false) × Extends (history_of q.planting q.memory.rested) (history_of q.planting rows)
 rests_since allows p q goes is count rows period x =
-    let now : IsPeriod count q rows period = period_stays p q goes.number goes.planting count rows period (knows_more allows p q goes) (ap (λ (m : PassMemory). m.polls) is) x in (
+    let now : HasPeriod count q rows period = period_goes_on allows p q goes (ap (λ (m : PassMemory). m.polls) is) count rows period x in (
       now,
       ap (λ (m : PassMemory). m.away) is,
       subst (λ l. Extends (history_of q.planting l) (history_of q.planting rows)) (sym (ap (λ (m : PassMemory). m.rested) is)) now.began,
     )
 
 -- where no step is made
-pub passes_over : (p : SeatedPass) (old : Period) → PollsOn p.number.0 (p.number.0 + 1) old old p p
-passes_over p old = record {
+pub passes_itself : (p : SeatedPass) (old : Period) → PollsOn p.number.0 (p.number.0 + 1) old old p p
+passes_itself p old = record {
   keeps = keeps_all p.memory;
   period = λ rows y. record {
     began = y.began;
@@ -164,14 +168,14 @@ pub polls_on : (a b c : ℕ) (x y z : Period) (p q r : SeatedPass) → PollsOn a
 polls_on a b c x y z p q r one two = record { keeps = keeps_on p.memory q.memory r.memory one.keeps two.keeps; period = λ rows k. two.period rows (one.period rows k) }
 
 -- a period that has polled nobody yet
-pub begins_period : (count : ℕ) (old new : Period) (p q : SeatedPass) → IsOver old → PollsOn 0 count old new p q → BeginsPeriod count new p q
+pub begins_period : (count : ℕ) (old new : Period) (p q : SeatedPass) → WaitsForNobody old → PollsOn 0 count old new p q → BeginsPeriod count new p q
 begins_period count old new p q none x = record {
   keeps = x.keeps;
   begins = x.period p.known record { began = ends_self (history_of p.planting p.known); polled = λ k i d. absurd (let y : k < 0 = i in omega (arith, y)); others = λ k often e. absurd (let y : None ≡ Some often = sym (none k) ∙ e in cc) };
 }
 
 -- once nobody is waited for, and the pass itself has rested since, all have
-pub all_rested : (lay : Layout) (q : SeatedPass) (rows : List Row) (period : Period) → IsOver period → IsPeriod lay.passes q rows period → q.memory.away ≡ false → Extends (history_of q.planting q.memory.rested) (history_of q.planting rows) → HasSeenAllRest lay q rows
+pub all_rested : (lay : Layout) (q : SeatedPass) (rows : List Row) (period : Period) → WaitsForNobody period → HasPeriod lay.passes q rows period → q.memory.away ≡ false → Extends (history_of q.planting q.memory.rested) (history_of q.planting rows) → HasSeenAllRest lay q rows
 all_rested lay q rows period over x there own = record {
   there = there;
   own = own;

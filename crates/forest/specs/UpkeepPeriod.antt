@@ -38,33 +38,33 @@ pub record IsPolledSince (p : SeatedPass) (rows : List Row) (k : ℕ) (waits : O
   pub since : Extends (history_of p.planting moment) (history_of p.planting rows)
 
 -- how often pass k had rested, if the period waits for it
-abbrev pub waits_at : Period → ℕ → Option ℕ
-waits_at period k = slice_index_or period.waits k None
+abbrev pub waited_for : Period → ℕ → Option ℕ
+waited_for period k = slice_index_or period.waits k None
 
 -- The period of pass p began when it knew these rows: each other pass with a number below `count`
 -- has been polled since, and the period waits for those of them that have not rested since then.
-pub record IsPeriod (count : ℕ) (p : SeatedPass) (rows : List Row) (period : Period) : Type 0 where
+pub record HasPeriod (count : ℕ) (p : SeatedPass) (rows : List Row) (period : Period) : Type 0 where
   pub began : Extends (history_of p.planting p.known) (history_of p.planting rows)
-  pub polled : (k : ℕ) → k < count → k ≢ p.number.0 → IsPolledSince p rows k (waits_at period k)
-  pub others : (k often : ℕ) → waits_at period k ≡ Some often → (k < count) × (k ≢ p.number.0)
+  pub polled : (k : ℕ) → k < count → k ≢ p.number.0 → IsPolledSince p rows k (waited_for period k)
+  pub others : (k often : ℕ) → waited_for period k ≡ Some often → (k < count) × (k ≢ p.number.0)
 
 -- The pass, which is q now, has polled others: what the period was of the passes below `from`, it is
 -- now of those below `to`.
 pub record PollsOn (from to : ℕ) (old new : Period) (p q : SeatedPass) : Type 0 where
   pub keeps : KeepsSlots p.memory q.memory
-  pub period : (rows : List Row) → IsPeriod from p rows old → IsPeriod to q rows new
+  pub period : (rows : List Row) → HasPeriod from p rows old → HasPeriod to q rows new
 
 -- the period has begun when the pass knew what it knew as p, and waits for passes below `count`
 pub record BeginsPeriod (count : ℕ) (period : Period) (p q : SeatedPass) : Type 0 where
   pub keeps : KeepsSlots p.memory q.memory
-  pub begins : IsPeriod count q p.known period
+  pub begins : HasPeriod count q p.known period
 
 -- the period waits for nobody
-abbrev pub IsOver : Period → Type 0
-IsOver period = (k : ℕ) → waits_at period k ≡ None
+abbrev pub WaitsForNobody : Period → Type 0
+WaitsForNobody period = (k : ℕ) → waited_for period k ≡ None
 
 -- it waits for this pass, and for none before it
 pub record IsFirstWaited (period : Period) (k : ℕ) : Type 0 where
   pub often : ℕ
-  pub waits : waits_at period k ≡ Some often
-  pub before : (j : ℕ) → j < k → waits_at period j ≡ None
+  pub waits : waited_for period k ≡ Some often
+  pub before : (j : ℕ) → j < k → waited_for period j ≡ None

@@ -7,7 +7,7 @@ ghost use Rattle.forest.specs.Seats.{StaysAtTable};
 ghost use Rattle.forest.specs.Slotted.{names_of_table};
 ghost use Rattle.forest.specs.TableRule.{history_of};
 ghost use Rattle.forest.specs.UpkeepSteps.{IsLastingSeat, RestsOn};
-ghost use Rattle.forest.specs.UpkeepPeriod.{BeginsPeriod, HasLookedAgain, HasLookedFirst, IsFirstWaited, IsOver, IsPeriod, PollsOn, last_poll, poll_of};
+ghost use Rattle.forest.specs.UpkeepPeriod.{BeginsPeriod, HasLookedAgain, HasLookedFirst, IsFirstWaited, WaitsForNobody, HasPeriod, PollsOn, last_poll, poll_of};
 ghost use Rattle.forest.specs.declared.view.SeatedPass.{SeatedPass};
 
 use crate::lasting_laws::looks_last;
@@ -139,13 +139,13 @@ impl Period {
     ) -> bool
         requires table { IsLastingSeat words.now layout.now seat.old }
         requires period { (p : SeatedPass) × (seat.old.me.0.passes ≡ p ∷ [])
-            × (rows : List Row) × IsPeriod layout.now.passes p rows self.old }
+            × (rows : List Row) × HasPeriod layout.now.passes p rows self.old }
         ensures table { StaysAtTable seat.old seat.new }
         ensures polls { RestsOn S.allows
             (PollsOn layout.now.passes layout.now.passes self.old self.new)
             seat.old.me.0 seat.new.me.0 }
         ensures over { IsTrue result → (q : SeatedPass) (rows : List Row)
-            → IsPeriod layout.now.passes q rows self.new → q.memory.away ≡ false
+            → HasPeriod layout.now.passes q rows self.new → q.memory.away ≡ false
             → Extends (history_of q.planting q.memory.rested) (history_of q.planting rows)
             → HasSeenAllRest (names_of_table words.now.table.shared.key) q rows }
     {
@@ -165,7 +165,7 @@ impl Period {
     )
         requires table { IsLastingSeat words.now layout.now seat.old }
         requires period { (p : SeatedPass) × (seat.old.me.0.passes ≡ p ∷ [])
-            × (rows : List Row) × IsPeriod layout.now.passes p rows self.old }
+            × (rows : List Row) × HasPeriod layout.now.passes p rows self.old }
         requires inside { other.0 < layout.now.passes }
         ensures table { StaysAtTable seat.old seat.new }
         ensures polls { RestsOn S.allows
@@ -180,7 +180,7 @@ impl Period {
     /// The first pass that is waited for: until it rests or goes away, nothing comes back that was
     /// found before the period began.
     pub(crate) fn waits_for(&self) -> Option<PassNo>
-        ensures { MatchOption result (IsOver self.now) (λ other. IsFirstWaited self.now other.0) }
+        ensures { MatchOption result (WaitsForNobody self.now) (λ other. IsFirstWaited self.now other.0) }
     {
         for other in 0..32 {
             if self.waits[other].is_some() {

@@ -7,7 +7,7 @@ use Rattle.forest.specs.Slotted.{slots_of_table}
 use Rattle.forest.specs.UpkeepSteps.{RestsOn}
 use Rattle.forest.specs.UpkeepPeriod.{HasLookedAgain, last_poll, poll_of}
 use Rattle.forest.specs.declared.view.SeatedPass.{SeatedPass}
-use Rattle.forest.proofs.UpkeepPeriod.{last_among, looks_again}
+use Rattle.forest.proofs.UpkeepPeriod.{last_among, looked_so_again}
 use Rattle.forest.proofs.UpkeepSteps.{counts_at, seat_learns, upkeep_allows}
 use Rattle.forest.proofs.upkeep.period.look_again.Goals as goal
 
@@ -36,4 +36,4 @@ returns-clause-looked g c =
     let seen = c.args.seen in
     let n = c.load_with.result in
     subst (λ waits. RestsOn g.S.Shape.allows (HasLookedAgain k seen waits) c.args.seat.now.me.0 c.load_with.new.seat.me.0) (sym c.still_waits.ensures)
-    (seat_learns g.S.Shape.allows (λ rows. memory_polled x.0.memory (poll_of k x.2 (Some seen)) seen n) (HasLookedAgain k seen (if n == 2 * seen then Some seen else None)) x.0 c.args.seat.now.me.0 c.load_with.new.seat.me.0 x.1 x.4 (λ q goes e. looks_again k n seen x.2 x.0 q x.3 e))
+    (seat_learns g.S.Shape.allows (λ rows. memory_polled x.0.memory (poll_of k x.2 (Some seen)) seen n) (HasLookedAgain k seen (if n == 2 * seen then Some seen else None)) x.0 c.args.seat.now.me.0 c.load_with.new.seat.me.0 x.1 x.4 (λ q goes e. looked_so_again k n seen x.2 x.0 q x.3 e))

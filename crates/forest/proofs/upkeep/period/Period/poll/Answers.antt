@@ -1,7 +1,7 @@
 use Rattle.std.proofs.Common.{not, refl, sym, ◌∙◌, ap, subst}
 use Rattle.histories.specs.Common.{Layout}
 use Rattle.forest.specs.Slotted.{names_of_table}
-use Rattle.forest.specs.UpkeepPeriod.{IsFirstWaited, IsOver, IsPeriod, PollsOn}
+use Rattle.forest.specs.UpkeepPeriod.{IsFirstWaited, WaitsForNobody, HasPeriod, PollsOn}
 use Rattle.forest.specs.declared.view.SeatedPass.{SeatedPass}
 use Rattle.forest.proofs.Ruled.{same_pass}
 use Rattle.forest.proofs.UpkeepPeriod.{all_rested, asks_none, over_if, polls_on}
@@ -15,7 +15,7 @@ pub ask-requires-clause-period : goal.ask-requires-clause-period
 ask-requires-clause-period g c =
     let period = c.requires.period in
     let polls = c.loop-other.invariant.polls in
-    (polls.later, polls.is, period.2, polls.holds.period period.2 (subst (λ (z : SeatedPass). IsPeriod c.args.layout.now.passes z period.2 c.args.self.now) (sym (same_pass c.args.seat.now.me.0.passes period.0 polls.pass period.1 polls.was)) period.3))
+    (polls.later, polls.is, period.2, polls.holds.period period.2 (subst (λ (z : SeatedPass). HasPeriod c.args.layout.now.passes z period.2 c.args.self.now) (sym (same_pass c.args.seat.now.me.0.passes period.0 polls.pass period.1 polls.was)) period.3))
 
 pub loop-other-preserved : goal.loop-other-preserved
 loop-other-preserved g c =
@@ -31,5 +31,5 @@ loop-other-preserved g c =
 pub returns-clause-over : goal.returns-clause-over
 returns-clause-over g c = λ over q rows period there own.
     let site = c.args.words.now.table.shared.key in
-    all_rested (names_of_table site) q rows c.loop-other.self (over_if c.waits_for.result (IsOver c.loop-other.self) (λ other. IsFirstWaited c.loop-other.self other.0) (c.is_none.ensures ∙ ap not over) c.waits_for.ensures)
-    (subst (λ n. IsPeriod n q rows c.loop-other.self) (sym (passes_of_table site ∙ ap (λ (l : Layout). l.passes) c.requires.table.0.layout)) period) there own
+    all_rested (names_of_table site) q rows c.loop-other.self (over_if c.waits_for.result (WaitsForNobody c.loop-other.self) (λ other. IsFirstWaited c.loop-other.self other.0) (c.is_none.ensures ∙ ap not over) c.waits_for.ensures)
+    (subst (λ n. HasPeriod n q rows c.loop-other.self) (sym (passes_of_table site ∙ ap (λ (l : Layout). l.passes) c.requires.table.0.layout)) period) there own

@@ -3,7 +3,7 @@ use Rattle.arena.specs.declared.number.PassNo.{PassNo}
 use Rattle.forest.specs.UpkeepPeriod.{HasLookedFirst, PollsOn}
 use Rattle.forest.specs.declared.view.SeatedPass.{SeatedPass}
 use Rattle.forest.proofs.Ruled.{same_pass}
-use Rattle.forest.proofs.UpkeepPeriod.{passes_over, takes_in}
+use Rattle.forest.proofs.UpkeepPeriod.{passes_itself, takes_in}
 use Rattle.forest.proofs.UpkeepSteps.{seat_as, seat_still}
 use Rattle.forest.proofs.upkeep.period.Period.take_in.Goals as goal
 
@@ -13,7 +13,7 @@ returns-then-next-number-clause-polls g c =
     let k = c.args.next.0 in
     let now = c.args.self.now in
     seat_still g.S.Shape.allows (PollsOn k (k + 1) now now) one.0 c.args.seat.now.me.0 one.1
-    (subst (λ n. PollsOn n (n + 1) now now one.0 one.0) (ap (λ (n : PassNo). n.0) one.2 ∙ sym c.if-next-number.true) (passes_over one.0 now))
+    (subst (λ n. PollsOn n (n + 1) now now one.0 one.0) (ap (λ (n : PassNo). n.0) one.2 ∙ sym c.if-next-number.true) (passes_itself one.0 now))
 
 pub returns-clause-polls : goal.returns-clause-polls
 returns-clause-polls g c =
