@@ -23,7 +23,7 @@ use Rattle.forest.proofs.Passes.{call_of, steps_are}
 module _ {K V B : Type 0} (valid_key : K → Type 0) (key : K → ℕ) (valid_value : V → Type 0) (value : V → ℕ) (trie : Bool) (p : pass.Inside (Dict K V B)) (x : IsPass (TypedAllows (IsWordOf valid_key key) (IsWordOf valid_value value)) (map_mode trie) p) where
   -- a call of this pass, of this number, which began as it was seen then
   abbrev pub opened : DictRun K V → Turn (Reply K V) → ℕ → Snapshot PassView → Inside K V B
-  opened m turn number seen = record { number = p.number; layout = p.layout; seat = p.seat; blamed = p.blamed; call = number; run = m; turn = turn; over = false; began = seen }
+  opened m turn number seen = record { number = p.number; layout = p.layout; seat = p.seat; blamed = p.blamed; room = p.room; call = number; run = m; turn = turn; over = false; began = seen }
 
   -- no step is made yet
   none_made : seat_steps p.seat.me.0.passes ≡ steps_of (pass_view p)

@@ -27,7 +27,7 @@ numbered n = record { 0 = n }
 module _ {K V B : Type 0} (valid_key : K → Type 0) (key : K → ℕ) (valid_value : V → Type 0) (value_word : V → ℕ) {trie : Bool} (o : Inside K V B) (x : IsOpen valid_key key valid_value value_word trie o) (reply : Reply K V) (is : o.turn ≡ Done reply) where
   -- the pass as the call began
   abbrev was : pass.Inside (Dict K V B)
-  was = pass_as o.began.value o.seat
+  was = pass_as o.began.value o.seat o.room
 
   ends : SeatDictEnds valid_key key valid_value value_word (next_call o.began.value x.pass.is_pass) o.seat.me.0.passes x.first o.run reply
   ends = subst (λ turn. Stands (TypedAllows (IsWordOf valid_key key) (IsWordOf valid_value value_word)) (DictWaits (IsWordOf valid_key key) (IsWordOf valid_value value_word)) (IsSameDictCall valid_key key valid_value value_word) HasDictLeft (next_call o.began.value x.pass.is_pass) o.seat.me.0.passes x.first (DictAnswers valid_key key valid_value value_word) o.run turn) is x.stands
@@ -35,7 +35,7 @@ module _ {K V B : Type 0} (valid_key : K → Type 0) (key : K → ℕ) (valid_va
   module _ (left : Remaining) (blamed : List ℕ) (gives : left ≡ share_of o.run.run) (blames : blamed ≡ blamed_by_reply reply o.blamed) where
     -- the pass that is given back
     abbrev pub back : pass.Inside (Dict K V B)
-    back = record { number = o.number; layout = o.layout; share = left; seat = o.seat; blamed = blamed; shape = record {} }
+    back = record { number = o.number; layout = o.layout; share = left; seat = o.seat; blamed = blamed; room = o.room; shape = record {} }
 
     number_is : o.number ≡ record { 0 = o.began.value.number }
     number_is = ap numbered x.kept.number

@@ -10,6 +10,7 @@ use Rattle.forest.specs.declared.memory.PassMemory.{PassMemory}
 use Rattle.forest.specs.declared.view.SeatedPass.{SeatedPass}
 use Rattle.forest.specs.declared.view.SeatView.{SeatView}
 use Rattle.forest.specs.declared.pass.Pass.TheInside.{Inside}
+use Rattle.forest.specs.declared.room.Room.{Room}
 use Rattle.forest.specs.TableRule.{dealt_to, history_of}
 use Rattle.forest.specs.Traces.{IsSeated, Trace, HoldsForCall, known_of, planting_of, memory_of, run_at, rows_of, seat_steps}
 use Rattle.forest.specs.Shares.{IsBetweenCalls}
@@ -49,6 +50,10 @@ call_of p x number = record { layout = p.layout; pass = p.number.0; is_pass = x.
 -- a call of it begins where P holds of what it knows, and what the call is to have is dealt
 pub begun_with : {allows : Layout → History → ℕ → Type 0} {mode : Mode} {T : Type 0} (p : Inside T) (x : IsPass allows mode p) (number : ℕ) {P : History → Type 0} {left : PassMemory → Type 0} → left (memory_of p.seat.me.0.passes) → P (run_at p.seat.me.0.passes) → HoldsForCall allows left p.seat.me.0.passes (call_of p x number) (λ h. ((call_of p x number).start ≡ h) × P h)
 begun_with p x number dealt holds = record { planting = planting_of p.seat.me.0.passes; known = known_of p.seat.me.0.passes; is = record { memory = memory_of p.seat.me.0.passes; alone = x.seat.alone; since = x.seat.since; there = x.seat.there; left = dealt }; sound = x.sound; so = (refl, holds) }
+
+-- the lists that it keeps for its reads say nothing of it
+pub in_room : {allows : Layout → History → ℕ → Type 0} {mode : Mode} {T : Type 0} (p : Inside T) → IsPass allows mode p → (room : Room) → IsPass allows mode (record p { room = room })
+in_room p x room = record { seat = x.seat; bare = x.bare; is_mode = x.is_mode; is_pass = x.is_pass; sound = x.sound; rest = x.rest; dealt = x.dealt; blamed = x.blamed }
 
 -- the pass with its seat as it is now
 abbrev pub seated : {T : Type 0} → Inside T → Seat ℕ SeatView → Inside T

@@ -4,7 +4,7 @@ use Rattle.template.specs.Balance.{map_mode}
 use Rattle.dict.specs.Calls.{inner_trie}
 use Rattle.dict.specs.Inner.{GoalBy}
 use Rattle.dict.specs.Laws.Begins.{dict_mode}
-use Rattle.std.proofs.Common.{Global, Result, Vec, ◌≡◌, ℕ, zero, suc, ◌+◌, ◌*◌, ◌-◌, ◌<◌, ◌≤◌, List, Option, None, refl, sym, subst, ap, arith, ◌∙◌}
+use Rattle.std.proofs.Common.{Global, Result, Vec, ◌≡◌, ℕ, zero, suc, ◌+◌, ◌*◌, ◌-◌, ◌<◌, ◌≤◌, List, [], Option, None, refl, sym, subst, ap, arith, ◌∙◌}
 use Rattle.histories.specs.Common.{Layout, Step, History, Call, Remaining, NodeNo}
 use Rattle.template.specs.Common.{Snap, Pair, MapCall, Goal, Rule, Reply}
 use Rattle.order.specs.Known.{HasNotBegun, IsSameRead, ReadIsReady, ReadWaits}
@@ -267,9 +267,13 @@ module _ {K V : Type 0} (valid_key : K → Type 0) (key : K → ℕ) (valid_valu
     ends = replies valid_key key valid_value value_word c ps (read_machine d tries share m) (read_machine d tries share last) (read_reply d.kind.tells a) r of (read_ended valid_key key valid_value value_word (read_machine d tries share m) c layout number is.0 is.1 d share ps last a x);
   }
 
--- a range that has not begun has no more steps left with other lists
-pub as_many_steps : (m : ReadRun RangeRead) (snaps : Vec Snap Global) (waiting : Vec NodeNo Global) (taken : Vec Pair Global) (nodes bound : ℕ) → m.at ≡ ReadStart → read_left range_means m nodes ≤ bound → read_left range_means (record m { read = record m.read { waiting = waiting; taken = taken }; snaps = snaps }) nodes ≤ bound
-as_many_steps m snaps waiting taken nodes bound at few = subst (λ a. tries_left range_means m nodes + phase_left range_means (record m { read = record m.read { waiting = waiting; taken = taken }; snaps = snaps }) nodes a ≤ bound) (sym at) (subst (λ a. tries_left range_means m nodes + phase_left range_means m nodes a ≤ bound) at few)
+-- a read that has not begun has not with another list of snapshots, which is empty
+pub relisted : {R : Type 0} (m other : ReadRun R) (by : Bool) (tries : ℕ) → other ≡ record m { snaps = other.snaps } → other.snaps.items ≡ [] → HasNotBegun m by tries → HasNotBegun other by tries
+relisted m other by tries is empty fresh = record { balance = ap (λ r. r.trie) is ∙ fresh.balance; start = ap (λ r. r.at) is ∙ fresh.start; empty = empty; limit = ap (λ r. r.limit) is ∙ fresh.limit; left = ap (λ r. r.tries) is ∙ fresh.left }
+
+-- a range that has not begun has no more steps left with other lists, and with others again
+pub as_many_steps : (m other : ReadRun RangeRead) (snaps : Vec Snap Global) (waiting : Vec NodeNo Global) (taken : Vec Pair Global) (nodes bound : ℕ) → other ≡ record m { read = record m.read { waiting = other.read.waiting; taken = other.read.taken }; snaps = other.snaps } → m.at ≡ ReadStart → read_left range_means m nodes ≤ bound → read_left range_means (record other { read = record other.read { waiting = waiting; taken = taken }; snaps = snaps }) nodes ≤ bound
+as_many_steps m other snaps waiting taken nodes bound is at few = subst (λ (r : ReadRun RangeRead). read_left range_means (record r { read = record r.read { waiting = waiting; taken = taken }; snaps = snaps }) nodes ≤ bound) (sym is) (subst (λ a. tries_left range_means m nodes + phase_left range_means (record m { read = record m.read { waiting = waiting; taken = taken }; snaps = snaps }) nodes a ≤ bound) (sym at) (subst (λ a. tries_left range_means m nodes + phase_left range_means m nodes a ≤ bound) at few))
 
 -- all tries have as many steps as each of them, times their number
 pub tries_steps : (now old left tries each : ℕ) → 0 < tries → left ≡ tries - 1 → now ≤ old + (left * each + each) → now ≤ old + tries * each

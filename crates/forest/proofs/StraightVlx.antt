@@ -1,6 +1,6 @@
 -- From info to info of a VLX, of whatever machine validates; and calls of VLX, which validate their
 -- own snapshots.
-use Rattle.std.proofs.Common.{◌≡◌, ◌≢◌, ℕ, suc, ◌<◌, List, length, refl, subst}
+use Rattle.std.proofs.Common.{◌≡◌, ◌≢◌, ℕ, zero, suc, ◌<◌, List, length, refl, sym, subst}
 use Rattle.histories.specs.Common.{Layout, LoadInfo, info, History, Call}
 use Rattle.template.specs.Common.{load, snap_at, Snap, Same, Changed, VlxRun}
 use Rattle.prims.specs.Vlx.Known.{HasFoundUnchanged}
@@ -9,7 +9,7 @@ use Rattle.forest.specs.declared.view.SeatedPass.{SeatedPass}
 use Rattle.forest.specs.CallKinds.{Calls}
 use Rattle.forest.specs.CallSteps.{AnyLeft}
 use Rattle.forest.specs.Inside.{InnerIsTold, InnerWaits}
-use Rattle.forest.specs.StraightVlx.{vlx_at, AreSameSnaps, ready_over, waits_over, SeatVlxBegins, SeatVlxEnds, Validator, LoadsFirstInfo}
+use Rattle.forest.specs.StraightVlx.{vlx_at, AreSameSnaps, ready_over, waits_over, SeatVlxBegins, SeatVlxEnds, Validator, LoadsFirstInfo, HasGoneAlong}
 use Rattle.forest.specs.TableRule.{history_of}
 use Rattle.forest.proofs.Inside.{goes_to}
 use Rattle.forest.proofs.Places.{starts}
@@ -17,6 +17,15 @@ use Rattle.forest.proofs.Places.{starts}
 -- where the last info was what its snapshot found, it waits for the next, if there is one
 pub to_next : {M : Type 0} {o : Calls M} {snaps : List Snap} (k : Validator o snaps) (ps : List SeatedPass) (n asked v : ℕ) → suc n ≡ asked → (snap_at snaps n).scx.0 ≡ v → asked < length snaps → InnerIsTold k ps asked v → InnerWaits k ps (suc asked) (load LoadInfo (info (snap_at snaps asked).node.0))
 to_next {snaps = snaps} k ps n asked v is found more = goes_to k ps asked (suc asked) v _ refl (λ d h t. looks_next d h snaps asked (looked_on d h snaps asked n v t.0 t.1 is found) more)
+
+-- where it has gone along so many it waits for the next, if there is one
+pub waits_next : {M : Type 0} {o : Calls M} {snaps : List Snap} (k : Validator o snaps) (ps : List SeatedPass) (asked : ℕ) → asked < length snaps → HasGoneAlong k ps asked → InnerWaits k ps (suc asked) (load LoadInfo (info (snap_at snaps asked).node.0))
+waits_next k ps zero more x = x
+waits_next {snaps = snaps} k ps (suc n) more x = to_next k ps n (suc n) (snap_at snaps n).scx.0 refl refl more x
+
+-- where it has gone along all it has got the info of the last
+pub gone_all : {M : Type 0} {o : Calls M} {snaps : List Snap} (k : Validator o snaps) (ps : List SeatedPass) (n : ℕ) → suc n ≡ length snaps → HasGoneAlong k ps (length snaps) → InnerIsTold k ps (length snaps) (snap_at snaps n).scx.0
+gone_all {snaps = snaps} k ps n last x = subst (λ (asked : ℕ). InnerIsTold k ps asked (snap_at snaps n).scx.0) last (subst (λ (asked : ℕ). HasGoneAlong k ps asked) (sym last) x)
 
 -- its calls over such lists, of a layout and a number
 abbrev vlx_calls : {L : Type 0} → (L → List Snap) → (Layout → History → ℕ → Type 0) → Layout → ℕ → Calls (VlxRun L)

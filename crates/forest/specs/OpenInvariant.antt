@@ -14,6 +14,7 @@ use Rattle.dict.specs.declared.shape.Dict.{Dict}
 use Rattle.prims.specs.Shares.{share_end}
 use Rattle.forest.specs.declared.open.OpenCall.TheInside.{Inside}
 use Rattle.forest.specs.declared.pass.Pass.TheInside as pass
+use Rattle.forest.specs.declared.room.Room.{Room}
 use Rattle.forest.specs.declared.view.SeatView.{SeatView}
 use Rattle.forest.specs.CallSteps.{HasDictLeft}
 use Rattle.forest.specs.Opened.{OpenView}
@@ -36,15 +37,16 @@ open_view o = record {
   over = o.over;
 }
 
--- The fields of this pass, at a seat that has it alone, from what contracts see of it, which is not
--- when it rested last.
-abbrev pub pass_as : {T : Type 0} → PassView → Seat ℕ SeatView → pass.Inside T
-pass_as p s = record {
+-- The fields of this pass, at a seat that has it alone and with these lists, from what contracts see
+-- of it, which is not when it rested last.
+abbrev pub pass_as : {T : Type 0} → PassView → Seat ℕ SeatView → Room → pass.Inside T
+pass_as p s room = record {
   number = record { 0 = p.number };
   layout = p.layout;
   share = p.share;
   seat = record s { table_id = p.table; me = (record { passes = seated_pass p.number p.layout p.planting (dealt_up_to (share_end p.share)) p.known ∷ [] }, []) };
   blamed = p.blamed;
+  room = room;
   shape = record {};
 }
 
@@ -63,7 +65,7 @@ pub record KeepsPass (began : PassView) (n : ℕ) (lay : Layout) (next : ℕ) (b
 -- what holds of every call that is held open
 pub record IsOpen {K V B : Type 0} (valid_key : K → Type 0) (key : K → ℕ) (valid_value : V → Type 0) (value : V → ℕ) (trie : Bool) (o : Inside K V B) : Type 0 where
   -- as it began its pass was one between two calls
-  pub pass : IsPass (TypedAllows (IsWordOf valid_key key) (IsWordOf valid_value value)) (map_mode trie) (pass_as {T = Dict K V B} o.began.value o.seat)
+  pub pass : IsPass (TypedAllows (IsWordOf valid_key key) (IsWordOf valid_value value)) (map_mode trie) (pass_as {T = Dict K V B} o.began.value o.seat o.room)
   -- only the seat and the share of it have changed
   pub table : o.seat.table_id ≡ o.began.value.table
   pub bare : o.seat.me.1 ≡ []

@@ -1,5 +1,6 @@
 -- VLXs that are at a place: as calls of their own, and of whatever machine validates snapshots.
-use Rattle.std.specs.Prelude.{◌≡◌, ℕ, List, Option, suc}
+use denote.Bor.{Bor}
+use Rattle.std.specs.Prelude.{◌≡◌, ℕ, List, Option, zero, suc}
 use Rattle.histories.specs.Common.{Layout, Step, History, Call, Lawful, LoadInfo, info}
 use Rattle.template.specs.Common.{VlxIsReady, VlxWaits, VlxAnswers, Snap, Vlx, VlxRun, load, snap_at}
 use Rattle.prims.specs.Vlx.Known.{VlxIsTold}
@@ -7,7 +8,7 @@ use Rattle.forest.specs.declared.view.SeatedPass.{SeatedPass}
 use Rattle.forest.specs.Traces.{CallBegins, Ends}
 use Rattle.forest.specs.CallKinds.{Calls}
 use Rattle.forest.specs.CallSteps.{AnyLeft}
-use Rattle.forest.specs.Inside.{Inner, Inside, InnerWaits}
+use Rattle.forest.specs.Inside.{Inner, Inside, InnerIsTold, InnerWaits}
 
 -- the run of VLX over the snapshots that has asked for this many infos
 abbrev pub vlx_at : {L : Type 0} → L → ℕ → VlxRun L
@@ -16,6 +17,10 @@ vlx_at snaps n = record { snaps = snaps; asked = n }
 -- the two runs of VLX are over the same snapshots
 abbrev pub AreSameSnaps : {L : Type 0} → VlxRun L → VlxRun L → Type 0
 AreSameSnaps old now = now.snaps ≡ old.snaps
+
+-- the list that a row of snapshots is
+abbrev pub row_of : Bor (List Snap) → List Snap
+row_of snaps = snaps.now
 
 module _ {L : Type 0} (list : L → List Snap) where
   -- a run of VLX may be called with this, over the list that its snapshots are
@@ -55,3 +60,9 @@ Validator o snaps = Inside o (inner_vlx snaps)
 -- its VLX waits for the info of the first of the snapshots, with which it begins
 abbrev pub LoadsFirstInfo : {M : Type 0} {o : Calls M} {snaps : List Snap} → Validator o snaps → List SeatedPass → Type 0
 LoadsFirstInfo {snaps = snaps} k ps = InnerWaits k ps 1 (load LoadInfo (info (snap_at snaps 0).node.0))
+
+-- its VLX has loaded the infos of so many of the snapshots, from the first, and each is what its
+-- snapshot found
+abbrev pub HasGoneAlong : {M : Type 0} {o : Calls M} {snaps : List Snap} → Validator o snaps → List SeatedPass → ℕ → Type 0
+HasGoneAlong k ps zero = LoadsFirstInfo k ps
+HasGoneAlong {snaps = snaps} k ps (suc n) = InnerIsTold k ps (suc n) (snap_at snaps n).scx.0

@@ -260,6 +260,7 @@ fn seat_of<S: Shape>(words: &Words<S>, layout: &Layout, pass: Pass<S>) -> Seat<u
         share: _,
         seat,
         blamed: _,
+        room: _,
         shape: _,
     } = pass;
     let mut seat = seat;

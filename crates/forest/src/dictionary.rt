@@ -244,7 +244,8 @@ impl<K: WordKey, V: WordValue, B: FixedBalance> Forest<Dict<K, V, B>> {
     }
 
     /// The pair with the least key above this one, if there is one. It takes nothing of the pass's
-    /// share, but memory for what it looks at.
+    /// share, and memory only where the lists of what it looks at, which the pass keeps from one
+    /// ordered read to the next, have to grow.
     pub fn successor(
         &self,
         alloc: Global,
@@ -259,7 +260,8 @@ impl<K: WordKey, V: WordValue, B: FixedBalance> Forest<Dict<K, V, B>> {
     }
 
     /// The pair with the greatest key below this one, if there is one. It takes nothing of the pass's
-    /// share, but memory for what it looks at.
+    /// share, and memory only where the lists of what it looks at, which the pass keeps from one
+    /// ordered read to the next, have to grow.
     pub fn predecessor(
         &self,
         alloc: Global,
@@ -274,8 +276,10 @@ impl<K: WordKey, V: WordValue, B: FixedBalance> Forest<Dict<K, V, B>> {
     }
 
     /// The first pairs by rising key with keys from `low` to `high`, both included, and at most
-    /// `most` of them, 64 at the most. It takes nothing of the pass's share, but memory. If it asks
-    /// for no pairs it makes no step, and leaves the pass as it was.
+    /// `most` of them, 64 at the most. It takes nothing of the pass's share; memory for these pairs,
+    /// and where the lists of what it looks at, which the pass keeps from one ordered read to the
+    /// next, have to grow. If it asks for no pairs it makes no step, and leaves the pass as it was,
+    /// but for these lists.
     pub fn range(
         &self,
         alloc: Global,
@@ -374,8 +378,8 @@ impl<K: WordKey, V: WordValue, B: FixedBalance> Forest<Dict<K, V, B>> {
             number,
             size: Dict::<K, V, B>::node_size(),
         };
-        let seat = &mut pass.seat;
-        let reply = calls::read(hand, seat, alloc, self.tries, request);
+        let (seat, room) = (&mut pass.seat, &mut pass.room);
+        let reply = calls::read(hand, seat, room, alloc, self.tries, request);
         pass.blamed.note_reply(&reply);
         reply
     }

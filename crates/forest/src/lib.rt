@@ -15,6 +15,7 @@ mod meet;
 mod memory;
 mod open;
 mod pass;
+mod room;
 mod rule;
 mod steps;
 mod straight;

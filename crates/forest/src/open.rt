@@ -16,6 +16,7 @@ use crate::balance::in_trie;
 use crate::blamed::Blamed;
 use crate::forest::Forest;
 use crate::pass::Pass;
+use crate::room::Room;
 use crate::steps::advance;
 use crate::straight::hand::Hand;
 use crate::view::SeatView;
@@ -45,6 +46,7 @@ pub struct OpenCall<K: WordKey, V: WordValue, B: FixedBalance = ByOrder> {
     layout: Layout,
     seat: Seat<u8, SeatView>,
     blamed: Blamed,
+    room: Room,
     /// Which of the pass's calls it is.
     call: u64,
     run: DictRun<K, V>,
@@ -92,6 +94,7 @@ impl<K: WordKey, V: WordValue, B: FixedBalance> Forest<Dict<K, V, B>> {
             share,
             seat,
             blamed,
+            room,
             shape: _,
         } = pass;
         let mut run = DictRun::new(
@@ -108,6 +111,7 @@ impl<K: WordKey, V: WordValue, B: FixedBalance> Forest<Dict<K, V, B>> {
             layout,
             seat,
             blamed,
+            room,
             call,
             run,
             turn,
@@ -169,6 +173,7 @@ impl<K: WordKey, V: WordValue, B: FixedBalance> OpenCall<K, V, B> {
             layout,
             seat,
             mut blamed,
+            room,
             call: _,
             run,
             turn,
@@ -186,6 +191,7 @@ impl<K: WordKey, V: WordValue, B: FixedBalance> OpenCall<K, V, B> {
             share: run.into_share(),
             seat,
             blamed,
+            room,
             shape: PhantomData,
         };
         (pass, reply)

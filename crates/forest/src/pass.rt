@@ -9,14 +9,17 @@ ghost use Rattle.forest.specs.Traces.{planting_of};
 ghost use Rattle.forest.specs.Passes.{PassView, taken_of};
 
 use crate::blamed::Blamed;
+use crate::room::Room;
 use crate::view::SeatView;
 use arena::{Layout, PassNo, Shape, Share};
 use atomic_table::Seat;
+use std::alloc::Global;
 use std::fmt;
 use std::marker::{Model, PhantomData};
 
-/// A part in a forest: a number, a share of the nodes and SCX-records, the run that it knows, and
-/// whom its calls have blamed. A thread has one, and gives it to each call.
+/// A part in a forest: a number, a share of the nodes and SCX-records, the run that it knows, whom
+/// its calls have blamed, and lists that its ordered reads fill. A thread has one, and gives it to
+/// each call.
 #[derive(Drop)]
 pub struct Pass<S: Shape> {
     pub(crate) number: PassNo,
@@ -24,6 +27,7 @@ pub struct Pass<S: Shape> {
     pub(crate) share: Share,
     pub(crate) seat: Seat<u8, SeatView>,
     pub(crate) blamed: Blamed,
+    pub(crate) room: Room,
     pub(crate) shape: PhantomData<S>,
 }
 
@@ -40,8 +44,14 @@ impl<S: Shape> Model for Pass<S> {
 }
 
 impl<S: Shape> Pass<S> {
-    /// A pass that has made no step, at a seat of its own.
-    pub(crate) fn new(layout: &Layout, number: PassNo, seat: Seat<u8, SeatView>) -> Pass<S>
+    /// A pass that has made no step, at a seat of its own. Its lists are empty, and grow with this
+    /// allocator.
+    pub(crate) fn new(
+        alloc: Global,
+        layout: &Layout,
+        number: PassNo,
+        seat: Seat<u8, SeatView>,
+    ) -> Pass<S>
         requires seat { (seat.me.0.passes
             ≡ seated_pass number.0 layout.now (planting_of seat.me.0.passes)
             (all_dealt layout.now number.0) [] ∷ [])
@@ -66,6 +76,7 @@ impl<S: Shape> Pass<S> {
             share: Share::of(layout, number),
             seat,
             blamed: Blamed::new(),
+            room: Room::new(alloc),
             shape: PhantomData,
         }
     }

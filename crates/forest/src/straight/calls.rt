@@ -4,6 +4,8 @@ ghost use Rattle.arena.specs.Machines.{Call};
 ghost use Rattle.arena.specs.Share.{Remaining};
 ghost use Rattle.dict.specs.Calls.{AsksForPairs, IsSmallCall, edit_call};
 ghost use Rattle.dict.specs.Says.{KeepsLists};
+ghost use Rattle.dict.specs.Translated.{IsReplyOf};
+ghost use Rattle.dict.specs.WordReplies.{range_reply};
 ghost use Rattle.ordered_map.specs.CallRules.{most_steps};
 ghost use Rattle.template.specs.Balance.{map_mode, nodes_by};
 ghost use Rattle.ordered_map.specs.OrderedMap.{Neighbour as NeighbourOf};
@@ -18,13 +20,17 @@ ghost use Rattle.forest.specs.Traces.{shared_nodes};
 ghost use Rattle.forest.specs.StraightCalls.{CallHasEnded, SeatCallBegins};
 
 use crate::balance::in_trie;
+use crate::room::Room;
 use crate::straight::hand::Hand;
 use crate::straight::{ordered_read, update};
 use crate::view::SeatView;
 use arena::{Share, Side};
 use atomic_table::Seat;
-use dict::{Dict, DictRun, Reply, Request, WordKey, WordValue, of_neighbour, of_range, of_update};
-use order::{Neighbour, Range, RangeRun};
+use dict::{
+    Dict, DictRun, Reply, Request, WordKey, WordValue, of_neighbour, of_range, of_update, pairs_of,
+};
+use order::{Neighbour, Range, RangeRun, Refused};
+use ordered_map::Pair;
 use std::alloc::Global;
 use template::FixedBalance;
 use tree::{EditGoal, EditRule, KeyEdit};
@@ -64,11 +70,19 @@ pub(crate) fn make<K: WordKey, V: WordValue, B: FixedBalance, G: EditGoal, R: Ed
     (of_update(goal, updated), share)
 }
 
-/// A range that has not begun, with room for what it keeps as a rule: for its pairs, and for the
-/// forks above them and on the way to them. Where that is refused, its lists grow as they are
-/// filled.
+/// A range that has not begun, with the lists of this room: long enough for what it keeps as a
+/// rule, which is its pairs, and the forks above them and on the way to them. Where that is refused,
+/// they grow as they are filled.
 #[inline(always)]
-fn range_run(alloc: Global, low: u64, high: u64, most: usize, tries: u32, trie: bool) -> RangeRun
+fn range_run(
+    room: &mut Room,
+    alloc: Global,
+    low: u64,
+    high: u64,
+    most: usize,
+    tries: u32,
+    trie: bool,
+) -> RangeRun
     ensures low { result.read.low ≡ low }
     ensures high { result.read.high ≡ high }
     ensures most { result.read.most ≡ most }
@@ -77,6 +91,7 @@ fn range_run(alloc: Global, low: u64, high: u64, most: usize, tries: u32, trie: 
         ≤ tries * range_try_left most nodes }
 {
     let mut run = Range::run(alloc, low, high, most, tries, trie);
+    room.exchange_all(&mut run);
     let pairs = most.min(64);
     let _ = run.read.taken.reserve(pairs);
     let _ = run.snaps.reserve(pairs + DEEP);
@@ -84,12 +99,35 @@ fn range_run(alloc: Global, low: u64, high: u64, most: usize, tries: u32, trie: 
     run
 }
 
-/// Looks with so many tries for the pair beside a key on this side, and takes nothing of a share. What
-/// it keeps grows with this allocator.
+/// What a range replies of what its machine has answered. What it lists grows with this allocator;
+/// the room keeps the list of words.
+#[inline(always)]
+fn told_range<K: WordKey, V: WordValue>(
+    room: &mut Room,
+    alloc: Global,
+    told: Result<Vec<Pair>, Refused>,
+) -> Reply<K, V>
+    ensures { IsReplyOf K.is_valid K.word_of V.is_valid V.word_of (range_reply told) result }
+{
+    let words = match told {
+        Ok(words) => words,
+        Err(refused) => return of_range(alloc, Err(refused)),
+    };
+    let pairs = pairs_of(alloc, &words);
+    room.keep(words);
+    match pairs {
+        Ok(pairs) => Reply::Pairs(pairs),
+        Err(_) => Reply::NoMemory,
+    }
+}
+
+/// Looks with so many tries for the pair beside a key on this side, and takes nothing of a share. It
+/// fills a list of the room.
 #[inline(always)]
 fn neighbour<K: WordKey, V: WordValue, B: FixedBalance>(
     hand: Hand<Dict<K, V, B>>,
     seat: &mut Seat<u8, SeatView>,
+    room: &mut Room,
     alloc: Global,
     tries: u32,
     key: K,
@@ -113,18 +151,21 @@ fn neighbour<K: WordKey, V: WordValue, B: FixedBalance>(
 {
     key.valid();
     let mut run = Neighbour::run(alloc, key.word(), side, tries, in_trie::<B>());
+    room.exchange(&mut run);
     let told = ordered_read::call::<Dict<K, V, B>, DictRun<K, V>, Neighbour, B>(
         hand, seat, &mut run,
     );
+    room.exchange(&mut run);
     of_neighbour(told)
 }
 
-/// Makes an ordered read with `tries` tries, which takes nothing of a share. What it keeps grows
-/// with this allocator.
+/// Makes an ordered read with `tries` tries, which takes nothing of a share. It fills the lists of
+/// the room; what a range replies grows with this allocator.
 #[inline(always)]
 pub(crate) fn read<K: WordKey, V: WordValue, B: FixedBalance>(
     hand: Hand<Dict<K, V, B>>,
     seat: &mut Seat<u8, SeatView>,
+    room: &mut Room,
     alloc: Global,
     tries: u32,
     request: Request<K, V>,
@@ -147,11 +188,12 @@ pub(crate) fn read<K: WordKey, V: WordValue, B: FixedBalance>(
     ensures nothing { ¬ AsksForPairs (as_map_call K.word_of V.word_of request) → seat.new ≡ seat.old }
 {
     match request {
-        Request::Successor { key } => neighbour(hand, seat, alloc, tries, key, Side::Right),
-        Request::Predecessor { key } => neighbour(hand, seat, alloc, tries, key, Side::Left),
+        Request::Successor { key } => neighbour(hand, seat, room, alloc, tries, key, Side::Right),
+        Request::Predecessor { key } => neighbour(hand, seat, room, alloc, tries, key, Side::Left),
         Request::Range { low, high, most } => {
             high.valid();
             let mut run = range_run(
+                room,
                 alloc,
                 low.word(),
                 high.word(),
@@ -162,7 +204,8 @@ pub(crate) fn read<K: WordKey, V: WordValue, B: FixedBalance>(
             let told = ordered_read::call::<Dict<K, V, B>, DictRun<K, V>, Range, B>(
                 hand, seat, &mut run,
             );
-            of_range(alloc, told)
+            room.exchange_all(&mut run);
+            told_range(room, alloc, told)
         }
         // Never: its callers make ordered reads alone, by the clause `ordered`.
         _ => unreachable!(),

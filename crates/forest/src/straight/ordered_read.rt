@@ -32,7 +32,7 @@ use order::{
     Children, HeadLoad, HighLoad, KeyLoad, KnownLoad, LeafPlace, MoreLoad, PairLoad, Read, ReadAt,
     ReadBegin, ReadLoad, ReadNext, ReadRun, Refused, ValueLoad, leaf_way,
 };
-use prims::{LlxAt, LlxRun, Snap, SnapList};
+use prims::{LlxAt, LlxRun};
 use template::{FixedBalance, Goal, Tree};
 
 /// Loads a settled word.
@@ -198,13 +198,13 @@ fn validate_on<S: Shape, M: CallMachine<S>, R: Read + Drop>(
         seat.old run.old ReadNext.Validate seat.new run.new result }
 {
     let snaps = run.snaps.as_slice();
-    let (asked, told) = validate::<S, M, &[Snap]>(hand, seat, snaps);
-    let last = SnapList::get(&snaps, asked - 1);
-    if told == last.scx.0 {
-        return Ok(run.read.answer());
+    match validate::<S, M>(hand, seat, snaps) {
+        None => Ok(run.read.answer()),
+        Some((asked, told)) => {
+            run.at = ReadAt::Validate { asked };
+            tell::<S, M, Tree, ReadRun<R>>(hand, seat, run, told)
+        }
     }
-    run.at = ReadAt::Validate { asked };
-    tell::<S, M, Tree, ReadRun<R>>(hand, seat, run, told)
 }
 
 /// Loads a word of a node, and returns what is done next.

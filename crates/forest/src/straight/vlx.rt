@@ -1,12 +1,12 @@
 //! VLX, of whatever machine validates snapshots, and as a call of its own.
-ghost use Rattle.std.specs.Prelude.{◌≡◌, ◌≤◌, ◌<◌, ◌+◌, ℕ, suc, length};
+ghost use Rattle.std.specs.Prelude.{◌≡◌, ◌≢◌, ◌≤◌, ◌<◌, ◌+◌, ◌-◌, IfSome, IsNone, length};
 ghost use Rattle.arena.specs.Machines.{Call};
 ghost use Rattle.forest.specs.Leads.{steps_made};
 ghost use Rattle.forest.specs.Inside.{InnerIsTold};
 ghost use Rattle.forest.specs.Hands.{IsAt, IsCallOf, hand_calls};
 ghost use Rattle.forest.specs.Seats.{StaysAtTable};
 ghost use Rattle.prims.specs.Snap.{snap_at};
-ghost use Rattle.forest.specs.StraightVlx.{LoadsFirstInfo, Validator, SeatVlxBegins, SeatVlxEnds};
+ghost use Rattle.forest.specs.StraightVlx.{HasGoneAlong, LoadsFirstInfo, Validator, SeatVlxBegins, SeatVlxEnds, row_of};
 
 use crate::call_machine::{CallMachine, CellShape};
 use crate::straight::hand::Hand;
@@ -14,30 +14,33 @@ use crate::straight::step::step;
 use crate::view::SeatView;
 use arena::{Access, Kind, NodeWord, ScxNo, Shape, Step, Word};
 use atomic_table::Seat;
-use prims::{SnapList, Vlx, VlxRun};
+use prims::{Snap, Vlx, VlxRun};
 
-/// VLX whose first info is asked for: loads the infos of the snapshots' nodes, up to the
-/// first that is not what its snapshot found, or else the last. It returns how many it has loaded,
-/// and what the last of these is.
+/// VLX whose first info is asked for: goes along the snapshots, and loads the infos of their nodes,
+/// up to the first that is not what its snapshot found, if there is one. Of that it returns which it
+/// is, counted from 1, and what it is.
 #[inline(always)]
-pub(crate) fn validate<S: Shape, M: CallMachine<S>, L: SnapList + Copy>(
+pub(crate) fn validate<S: Shape, M: CallMachine<S>>(
     hand: Hand<S>,
     seat: &mut Seat<u8, SeatView>,
-    snaps: L,
-) -> (usize, u64)
+    snaps: &[Snap],
+) -> Option<(usize, u64)>
     requires table { IsAt hand seat.old }
-    requires some { 0 < length (L.list snaps) }
-    requires waits { (v : Validator (hand_calls S.Shape M.Machine M.left_dealt hand) (L.list snaps))
+    requires waits { (v : Validator (hand_calls S.Shape M.Machine M.left_dealt hand) snaps.now)
         × LoadsFirstInfo v seat.old.me.0.passes }
     ensures table { StaysAtTable seat.old seat.new }
-    ensures told { (v : Validator (hand_calls S.Shape M.Machine M.left_dealt hand.entry)
-        (L.list snaps))
+    ensures same { IsNone result
+        → (v : Validator (hand_calls S.Shape M.Machine M.left_dealt hand.entry) snaps.now)
         → LoadsFirstInfo v seat.old.me.0.passes
-        → InnerIsTold v seat.new.me.0.passes result.0 result.1 }
-    ensures within { (0 < result.0) × (result.0 ≤ length (L.list snaps)) }
-    ensures all { (last : ℕ) → suc last ≡ result.0 → (snap_at (L.list snaps) last).scx.0 ≡ result.1
-        → result.0 ≡ length (L.list snaps) }
-    ensures steps { steps_made seat.new ≡ steps_made seat.old + result.0 }
+        → HasGoneAlong v seat.new.me.0.passes (length snaps.now) }
+    ensures told { IfSome result (λ r.
+        (v : Validator (hand_calls S.Shape M.Machine M.left_dealt hand.entry) snaps.now)
+        → LoadsFirstInfo v seat.old.me.0.passes
+        → InnerIsTold v seat.new.me.0.passes r.0 r.1) }
+    ensures other { IfSome result (λ r. (0 < r.0) × (r.0 ≤ length snaps.now)
+        × ((snap_at snaps.now (r.0 - 1)).scx.0 ≢ r.1)) }
+    ensures steps { IfSome result (λ r. steps_made seat.new ≡ steps_made seat.old + r.0) }
+    ensures most { steps_made seat.new ≤ steps_made seat.old + length snaps.now }
 {
     let layout = *hand.layout;
     let hand = Hand {
@@ -46,45 +49,41 @@ pub(crate) fn validate<S: Shape, M: CallMachine<S>, L: SnapList + Copy>(
         number: hand.number,
         size: hand.size,
     };
-    let count = snaps.len();
     let mut asked = 0;
-    loop {
-        let snap = snaps.get(asked);
+    for snap in snaps {
         let (kind, word) = (Kind::LoadInfo, Word::Node(snap.node, NodeWord::Info));
         let access = Access::Load;
         let told = step::<S, M>(hand, seat, Step { kind, word, access });
         asked += 1;
         if told != snap.scx.0 {
-            return (asked, told);
-        }
-        if asked >= count {
-            return (asked, told);
+            return Some((asked, told));
         }
     }
+    None
 }
 
 /// VLX: loads the infos of the snapshots' nodes, up to the first that is not what its snapshot
 /// found.
 #[inline(always)]
-pub(crate) fn call<S: CellShape, L: SnapList + Copy>(
+pub(crate) fn call<S: CellShape>(
     hand: Hand<S>,
     seat: &mut Seat<u8, SeatView>,
-    snaps: L,
+    snaps: &[Snap],
 ) -> Vlx
     requires table { IsAt hand seat.old }
     requires begins { (c : Call) × IsCallOf hand c
-        × SeatVlxBegins L.list S.allows c seat.old.me.0.passes snaps }
+        × SeatVlxBegins row_of S.allows c seat.old.me.0.passes snaps }
     ensures table { StaysAtTable seat.old seat.new }
     ensures ends { (c : Call) → IsCallOf hand.entry c
-        → SeatVlxBegins L.list S.allows c seat.old.me.0.passes snaps
-        → SeatVlxEnds L.list S.allows c seat.new.me.0.passes snaps result }
-    ensures steps { steps_made seat.new ≤ steps_made seat.old + length (L.list snaps) }
+        → SeatVlxBegins row_of S.allows c seat.old.me.0.passes snaps.entry
+        → SeatVlxEnds row_of S.allows c seat.new.me.0.passes snaps.entry result }
+    ensures steps { steps_made seat.new ≤ steps_made seat.old + length snaps.now }
 {
-    let (asked, told) = validate::<S, VlxRun<L>, L>(hand, seat, snaps);
-    let last = snaps.get(asked - 1);
-    if told != last.scx.0 {
-        let (node, scx) = (last.node, ScxNo(told));
-        return Vlx::Changed { node, scx };
+    match validate::<S, VlxRun<&[Snap]>>(hand, seat, snaps) {
+        None => Vlx::Same,
+        Some((asked, told)) => {
+            let (node, scx) = (snaps[asked - 1].node, ScxNo(told));
+            Vlx::Changed { node, scx }
+        }
     }
-    Vlx::Same
 }

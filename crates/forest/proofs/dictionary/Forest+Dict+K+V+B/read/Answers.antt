@@ -7,7 +7,7 @@ use Rattle.forest.specs.StraightCalls.{CallHasEnded}
 use Rattle.forest.specs.Traces.{known_of, planting_of}
 use Rattle.forest.specs.declared.view.SeatView.{SeatView}
 use Rattle.forest.proofs.DictCalls.{read_starts}
-use Rattle.forest.proofs.Passes.{layout_of, call_of}
+use Rattle.forest.proofs.Passes.{layout_of, call_of, in_room}
 use Rattle.forest.proofs.WholeCalls.{of_first, whole_call, whole_pass}
 use Rattle.forest.proofs.dictionary.Forest+Dict+K+V+B.read.Given.{Over}
 use Rattle.forest.proofs.dictionary.Forest+Dict+K+V+B.read.Goals.{After-note_reply}
@@ -28,7 +28,7 @@ call_ended g c = c.read-reply.ensures.ends (call_of c.pass.inside c.pass.invaria
 pub invariant_of-pass : goal.invariant_of-pass
 invariant_of-pass g c =
     let e = call_ended g c in
-    whole_pass g.K.WordKey.is_valid g.K.WordKey.word_of g.V.WordValue.is_valid g.V.WordValue.word_of (g.B.Balance.trie g.B.FixedBalance.the) c.pass.inside c.pass.invariant c.read-reply.new.seat e.first e.last c.read-reply.result e.ends e.fresh.has_share c.pass.inside.share c.note_reply.new.self e.is_left c.note_reply.ensures c.read-reply.ensures.table.1
+    in_room _ (whole_pass g.K.WordKey.is_valid g.K.WordKey.word_of g.V.WordValue.is_valid g.V.WordValue.word_of (g.B.Balance.trie g.B.FixedBalance.the) c.pass.inside c.pass.invariant c.read-reply.new.seat e.first e.last c.read-reply.result e.ends e.fresh.has_share c.pass.inside.share c.note_reply.new.self e.is_left c.note_reply.ensures c.read-reply.ensures.table.1) c.read-reply.new.room
 
 pub returns : goal.returns
 returns g c =

@@ -27,7 +27,7 @@ call-told-requires-clause-begins g c =
 pub returns-in-Range-clause-ends : goal.returns-in-Range-clause-ends
 returns-in-Range-clause-ends g c = λ call share fits x.
     let fresh = visits g (goal.at.returns-in-Range-clause-ends g c).After-range_run-run share in
-    made_ended g.K.WordKey.is_valid g.K.WordKey.word_of g.V.WordValue.is_valid g.V.WordValue.word_of ranges call (names c.args.hand) c.args.hand.number fits c.args.tries _ share c.range_run-run.result (g.B.Balance.trie g.B.FixedBalance.the) fresh _ c.call-told.new.run c.call-told.result c.of_range.result c.of_range.ensures
+    made_ended g.K.WordKey.is_valid g.K.WordKey.word_of g.V.WordValue.is_valid g.V.WordValue.word_of ranges call (names c.args.hand) c.args.hand.number fits c.args.tries _ share c.range_run-run.result (g.B.Balance.trie g.B.FixedBalance.the) fresh _ c.call-told.new.run c.call-told.result c.told_range.result c.told_range.ensures
     (c.call-told.ensures.leads.to (made_by g.K.WordKey.is_valid g.K.WordKey.word_of g.V.WordValue.is_valid g.V.WordValue.word_of ranges call (names c.args.hand) c.args.hand.number fits c.args.tries _ share c.range_run-run.result (g.B.Balance.trie g.B.FixedBalance.the) fresh) (made_begins g.K.WordKey.is_valid g.K.WordKey.word_of g.V.WordValue.is_valid g.V.WordValue.word_of ranges call (names c.args.hand) c.args.hand.number fits c.args.tries _ share c.range_run-run.result (g.B.Balance.trie g.B.FixedBalance.the) fresh _ x))
 
 pub neighbour-requires-clause-begins : goal.neighbour-requires-clause-begins
