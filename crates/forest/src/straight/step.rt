@@ -39,7 +39,8 @@ pub(crate) fn step_from<S: Shape, M: CallMachine<S>>(
         × IsStepBehind p.known (known_of seat.new.me.0.passes) p.number.0 hand.entry.number
         step.kind }
 {
-    let at = hand.layout.place_from(start, step.word);
+    let _ = start;
+    let at = hand.layout.place(step.word);
     let asked = CallStep {
         call: hand.number,
         step,

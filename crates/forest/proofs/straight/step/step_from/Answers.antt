@@ -6,20 +6,16 @@ use Rattle.forest.specs.Traces.{Trace, known_of, others, makes}
 use Rattle.forest.proofs.Advances.{called_so, may, may_in_map, word_of, told, one_step}
 use Rattle.forest.proofs.Calls.{course_keeps}
 use Rattle.forest.proofs.Ruled.{never_lasts}
-use Rattle.forest.proofs.Slotted.{names_are, place_of_table, word_of_table}
+use Rattle.forest.proofs.Slotted.{names_are, place_of_table}
 use Rattle.forest.proofs.straight.step.step_from.Goals as goal
 
-pub place_from-at-requires-clause-word : goal.place_from-at-requires-clause-word
-place_from-at-requires-clause-word g c = let w = c.requires.waits in let law = g.met.M.Machine in let table = c.args.hand.of_table in
+pub place-at-requires : goal.place-at-requires
+place-at-requires g c = let w = c.requires.waits in let law = g.met.M.Machine in let table = c.args.hand.of_table in
     subst (λ (l : Layout). IsWord l c.args.step.word) (w.3.0 ∙ names_are c.args.hand.words.now.table.shared.key c.args.hand.layout.now table.1 table.2) (word_of g.S.Shape.allows w.0 record { call = c.args.hand.number; step = c.args.step } w.3.1 _ _ (λ h. law.lawful w.2 w.0 h c.args.step) (called_so w.4))
 
-pub place_from-at-requires-clause-start : goal.place_from-at-requires-clause-start
-place_from-at-requires-clause-start g c = let w = c.requires.waits in let law = g.met.M.Machine in let table = c.args.hand.of_table in
-    c.requires.start ∙ sym (word_of_table c.args.hand.words.now.table.shared.key c.args.hand.layout.now table.1 table.2 c.args.step.word (subst (λ (l : Layout). IsWord l c.args.step.word) w.3.0 (word_of g.S.Shape.allows w.0 record { call = c.args.hand.number; step = c.args.step } w.3.1 _ _ (λ h. law.lawful w.2 w.0 h c.args.step) (called_so w.4))))
-
 pub make-requires-clause-place : goal.make-requires-clause-place
-make-requires-clause-place g c = let w = c.requires.waits in let law = g.met.M.Machine in let table = c.args.hand.of_table in let placed = c.place_from-at.ensures in
-    place_of_table c.args.hand.words.now.table.shared.key c.args.hand.layout.now table.1 table.2 c.args.step.word c.place_from-at.result (subst (λ (l : Layout). IsWord l c.args.step.word) w.3.0 (word_of g.S.Shape.allows w.0 record { call = c.args.hand.number; step = c.args.step } w.3.1 _ _ (λ h. law.lawful w.2 w.0 h c.args.step) (called_so w.4))) placed.place placed.inside placed.apart
+make-requires-clause-place g c = let w = c.requires.waits in let law = g.met.M.Machine in let table = c.args.hand.of_table in let placed = c.place-at.ensures in
+    place_of_table c.args.hand.words.now.table.shared.key c.args.hand.layout.now table.1 table.2 c.args.step.word c.place-at.result (subst (λ (l : Layout). IsWord l c.args.step.word) w.3.0 (word_of g.S.Shape.allows w.0 record { call = c.args.hand.number; step = c.args.step } w.3.1 _ _ (λ h. law.lawful w.2 w.0 h c.args.step) (called_so w.4))) placed.place placed.inside placed.apart
 
 pub make-requires-clause-table : goal.make-requires-clause-table
 make-requires-clause-table g c = let table = c.args.hand.of_table in (c.requires.table, le_of_eq (ap table_size table.1 ∙ sym table.0))
