@@ -1,8 +1,9 @@
+use denote.Param.Send.{sendable}
 use Rattle.std.proofs.Common.{◌≡◌, ◌∙◌, ◌+◌, suc, ◌∷◌, [], arith, ap, length, length-append}
 use Rattle.std.proofs.lemmas.List.Elements.{All-same, All-push}
 use Rattle.forest.specs.Passes.{IsOf}
 use Rattle.runner.specs.declared.thread.Duty.{Duty}
-use Rattle.runner.proofs.Gathered.{rest_too, started}
+use Rattle.runner.proofs.Gathered.{first_too, rest_too, started}
 use Rattle.runner.proofs.thread.start_all.Goals as goal
 
 pub loop-pass-preserved : goal.loop-pass-preserved
@@ -26,3 +27,12 @@ loop-pass-preserved g c =
           let left : length c.loop-pass.pass-iterator.rest.items ≡ suc (length c.next.new.self.rest.items) = ap length step in
           omega (arith, room, capacity, long, left)),
     )
+
+pub spawn_with-requires-clause-runs : goal.spawn_with-requires-clause-runs
+spawn_with-requires-clause-runs g c κs within = (
+  first_too c.loop-pass.pass-iterator.rest.items c.next.new.self.rest.items c.in-Some.pass c.in-Some.ensures.steps.0 (IsOf c.args.forest.now) c.loop-pass.invariant.2,
+  (
+    c.requires.asks,
+    (search (c.type_bounds.send-B, sendable) depth 20, search (c.type_bounds.sync-G, sendable) depth 20),
+  ),
+)
