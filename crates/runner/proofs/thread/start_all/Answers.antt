@@ -1,5 +1,5 @@
 use denote.Param.Send.{sendable}
-use Rattle.std.proofs.Common.{◌≡◌, ◌∙◌, ◌+◌, suc, ◌∷◌, [], arith, ap, length, length-append}
+use Rattle.std.proofs.Common.{◌≡◌, ◌∙◌, ◌+◌, suc, ◌∷◌, ◌++◌, [], arith, ap, length, length-append}
 use Rattle.std.proofs.lemmas.List.Elements.{All-same, All-push}
 use Rattle.forest.specs.Passes.{IsOf}
 use Rattle.runner.specs.declared.thread.Duty.{Duty}
@@ -18,9 +18,9 @@ loop-pass-preserved g c =
       tt,
       tt,
       rest_too c.loop-pass.pass-iterator.rest.items c.next.new.self.rest.items c.in-Some.pass step (IsOf c.args.forest.now) inv.2,
-      All-same (λ t. (t.promise.forest.now ≡ c.args.forest.now) × (t.promise.calls.now ≡ c.args.calls.now)) grown _ items
+      All-same (λ t. (t.promise.forest.now ≡ c.args.forest.now) × (t.promise.calls.now ≡ c.args.calls.now)) grown (threads ++ t ∷ []) items
           (All-push (λ t. (t.promise.forest.now ≡ c.args.forest.now) × (t.promise.calls.now ≡ c.args.calls.now)) threads t inv.3 (ap (λ (d : Duty _). d.forest.now) duty, ap (λ (d : Duty _). d.calls.now) duty)),
-      started threads grown t (λ t. t.promise.pass.value) c.in-Some.pass c.loop-pass.pass-iterator.rest.items c.next.new.self.rest.items _ items (ap (λ (d : Duty _). d.pass.value) duty ∙ c.of-pass_then.ensures) step inv.4,
+      started threads grown t (λ t. t.promise.pass.value) c.in-Some.pass c.loop-pass.pass-iterator.rest.items c.next.new.self.rest.items c.args.passes.items items (ap (λ (d : Duty _). d.pass.value) duty ∙ c.of-pass_then.ensures) step inv.4,
       (let room = inv.5 in
           let capacity = c.in-Ok-push.ensures.capacity in
           let long : length grown ≡ length threads + 1 = ap length items ∙ length-append threads (t ∷ []) in
