@@ -1,12 +1,12 @@
 //! All cases, one after another.
 use crate::case::Case;
-use crate::change::find_change;
+use crate::change::ReportChange;
 use crate::example::Example;
 use crate::files::list_of;
 use crate::finding::Finding;
-use crate::refusal::find_refusal;
+use crate::refusal::Refusal;
 use crate::sweep::Sweep;
-use crate::words::find_words;
+use crate::words::WordsCase;
 use anyhow::{Context, Result};
 use std::io::Input;
 use std::rt::Files;
@@ -21,54 +21,16 @@ pub(crate) struct Told {
     pub(crate) other: u64,
 }
 
-/// The cases that are lines of a list, without folders.
-#[derive(Clone, Copy)]
-enum List {
-    /// Texts that are refused.
-    Refusals,
-    /// Reports with a change.
-    Changes,
-    /// Words of the command line.
-    Words,
-    /// Scripts by one schedule after another.
-    Sweeps,
-}
-
-impl List {
-    /// The file that has it.
-    fn name(self) -> &'static str {
-        match self {
-            List::Refusals => "refused.txt",
-            List::Changes => "reports.txt",
-            List::Words => "words.txt",
-            List::Sweeps => "sweeps.txt",
-        }
-    }
-
-    /// How the case of a line ends.
-    fn find<R: Files + Input + Clock + AllocGlobal + Threads + Wait + Sync>(
-        self,
-        rt: &R,
-        line: &str,
-    ) -> Result<Finding> {
-        match self {
-            List::Refusals => find_refusal(rt, line),
-            List::Changes => find_change(rt, line),
-            List::Words => find_words(rt, line),
-            List::Sweeps => Sweep::of(line)?.find(rt.alloc()),
-        }
-    }
-}
-
 /// Reports of each case how it ends. A line of a list that begins with `#` is a remark.
 pub(crate) fn all<R: Files + Input + Print + Clock + AllocGlobal + Threads + Wait + Sync>(
     rt: &R,
 ) -> Result<Told> {
     let mut told = Told::default();
     told.cases(rt)?;
-    for list in [List::Refusals, List::Changes, List::Words, List::Sweeps] {
-        told.listed(rt, list)?;
-    }
+    told.refusals(rt)?;
+    told.changes(rt)?;
+    told.words(rt)?;
+    told.sweeps(rt)?;
     Ok(told)
 }
 
@@ -112,15 +74,50 @@ impl Told {
         Ok(found)
     }
 
-    /// Those of a list.
-    fn listed<R: Files + Input + Print + Clock + AllocGlobal + Threads + Wait + Sync>(
+    /// Texts that are refused.
+    fn refusals<R: Files + Print + AllocGlobal + Threads + Wait + Sync>(
         &mut self,
         rt: &R,
-        list: List,
     ) -> Result<()> {
-        for line in list_of(rt, list.name())?.as_str().lines() {
+        for line in list_of(rt, "refused.txt")?.as_str().lines() {
             if !line.starts_with('#') {
-                self.tell(rt, line, list.find(rt, line)?)?;
+                self.tell(rt, line, Refusal::of(line)?.find(rt)?)?;
+            }
+        }
+        Ok(())
+    }
+
+    /// Reports with a change.
+    fn changes<R: Files + Print + AllocGlobal + Threads + Wait + Sync>(
+        &mut self,
+        rt: &R,
+    ) -> Result<()> {
+        for line in list_of(rt, "reports.txt")?.as_str().lines() {
+            if !line.starts_with('#') {
+                self.tell(rt, line, ReportChange::of(line)?.find(rt)?)?;
+            }
+        }
+        Ok(())
+    }
+
+    /// Words of the command line.
+    fn words<R: Files + Input + Print + Clock + AllocGlobal + Threads + Wait + Sync>(
+        &mut self,
+        rt: &R,
+    ) -> Result<()> {
+        for line in list_of(rt, "words.txt")?.as_str().lines() {
+            if !line.starts_with('#') {
+                self.tell(rt, line, WordsCase::of(line)?.find(rt)?)?;
+            }
+        }
+        Ok(())
+    }
+
+    /// Scripts by one schedule after another.
+    fn sweeps<R: Files + Print + AllocGlobal>(&mut self, rt: &R) -> Result<()> {
+        for line in list_of(rt, "sweeps.txt")?.as_str().lines() {
+            if !line.starts_with('#') {
+                self.tell(rt, line, Sweep::of(line)?.find(rt.alloc())?)?;
             }
         }
         Ok(())

@@ -1,7 +1,7 @@
 //! Reports with a change.
 use crate::command::Action;
 use crate::expected::Expected;
-use crate::files::{file_of, has_file, lines_of, three_parts};
+use crate::files::{file_of, has_file, lines_of};
 use crate::finding::Finding;
 use crate::inputs::Inputs;
 use anyhow::{Context, Result};
@@ -11,22 +11,44 @@ use std::rt::Files;
 use std::sync::Wait;
 use std::thread::Threads;
 
-/// How the audit of a changed report ends. A line has the folder of the report, or of its script and
-/// schedule; the row that the audit is to name; and the changes: what is there, and what is put in
-/// its place the first time that it is there.
-pub(crate) fn find_change<R: Files + AllocGlobal + Threads + Wait + Sync>(
-    rt: &R,
-    line: &str,
-) -> Result<Finding> {
-    let alloc = rt.alloc();
-    let (folder, row, changes) = three_parts(line)?;
-    let texts = Inputs {
-        first: changed(alloc, report_of(rt, folder)?, changes)?,
-        second: Vec::new(alloc),
-    };
-    let fault = format!(in alloc; "not lawful: row {row}\n")?.into_bytes();
-    let ended = texts.over(rt, Action::Audit);
-    Ok(Expected::Fault(fault).compare(alloc, &ended)?)
+/// The folder of a report, or of its script and schedule; the row that the audit is to name once it
+/// changed; and the changes: what is there, and what is put in its place the first time that
+/// it is there.
+#[derive(Clone, Copy)]
+pub(crate) struct ReportChange<'a> {
+    folder: &'a str,
+    row: &'a str,
+    changes: &'a str,
+}
+
+impl<'a> ReportChange<'a> {
+    /// What a line says, with a `;` between any two of these.
+    pub(crate) fn of(line: &'a str) -> Result<ReportChange<'a>> {
+        let (folder, rest) = line.split_once(';').context(line)?;
+        let (row, changes) = rest.split_once(';').context(line)?;
+        Ok(ReportChange {
+            folder,
+            row,
+            changes,
+        })
+    }
+
+    /// How the audit of the changed report ends.
+    pub(crate) fn find<R: Files + AllocGlobal + Threads + Wait + Sync>(
+        self,
+        rt: &R,
+    ) -> Result<Finding> {
+        let alloc = rt.alloc();
+        let report = report_of(rt, self.folder)?;
+        let texts = Inputs {
+            first: changed(alloc, report, self.changes)?,
+            second: Vec::new(alloc),
+        };
+        let row = self.row;
+        let fault = format!(in alloc; "not lawful: row {row}\n")?.into_bytes();
+        let ended = texts.over(rt, Action::Audit);
+        Ok(Expected::Fault(fault).compare(alloc, &ended)?)
+    }
 }
 
 /// The report of a folder: the file, or where there is none, what a play of its texts prints.

@@ -31,13 +31,6 @@ fn path_of(alloc: Global, folder: &str, name: &str) -> Result<String, AllocError
     format!(in alloc; "{folder}/{name}")
 }
 
-/// The three parts of a line, with a `;` between any two of these; there may be more in the last.
-pub(crate) fn three_parts(line: &str) -> Result<(&str, &str, &str)> {
-    let (first, rest) = line.split_once(';').context(line)?;
-    let (second, third) = rest.split_once(';').context(line)?;
-    Ok((first, second, third))
-}
-
 /// A text with a new line for each `|`.
 pub(crate) fn lines_of(alloc: Global, text: &str) -> Result<String, AllocError> {
     let mut lines = String::new(alloc);
