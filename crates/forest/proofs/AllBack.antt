@@ -1,5 +1,5 @@
 -- Which passes are there.
-use Rattle.std.proofs.Common.{◌≡◌, ℕ, ◌+◌, ◌<◌, ⊎_elim, true, eqb, ◌||◌, List, [], ◌∷◌, map, refl, sym, ◌∙◌, ap, arith}
+use Rattle.std.proofs.Common.{◌≡◌, ℕ, ◌+◌, ◌<◌, ⊎_elim, true, eqb, ◌||◌, List, [], ◌∷◌, length, map, refl, sym, ◌∙◌, ap, arith}
 use Rattle.std.proofs.Math.Nat.{eq-or-lt_of_le}
 use Rattle.std.specs.List.{list_any}
 use Rattle.std.proofs.lemmas.Cmp.{nat_eq_equiv}
@@ -20,3 +20,8 @@ finds_pass ps n c = any_number ps n ∙ list_any-from_Contains nat_eq_equiv n (m
 -- one number more
 pub has_more : (ps : List PassView) (k : ℕ) → ((n : ℕ) → n < k → HasPass ps n) → HasPass ps k → (n : ℕ) → n < k + 1 → HasPass ps n
 has_more ps k before this n less = ⊎_elim (λ e. rw e this) (λ l. before n l) (eq-or-lt_of_le (omega arith))
+
+-- where one is there, there are some
+pub some_back : (ps : List PassView) (n : ℕ) → HasPass ps n → 0 < length ps
+some_back [] n c = absurd (let less = c.1 in omega (arith, less))
+some_back (p ∷ ps) n c = omega arith

@@ -86,12 +86,12 @@ looked_from {allows} {mode} p x s n bare m = (
 
 -- All of them
 
-one_left : (k : SeatedPass) (ps qs : List SeatedPass) → IsOneOf k ps → IsOneOf k (ps ++ qs)
+pub one_left : (k : SeatedPass) (ps qs : List SeatedPass) → IsOneOf k ps → IsOneOf k (ps ++ qs)
 one_left k (p ∷ ps) qs (inl e) = inl e
 one_left k (p ∷ ps) qs (inr i) = inr (one_left k ps qs i)
 one_left k [] qs i = absurd i
 
-one_right : (k : SeatedPass) (ps qs : List SeatedPass) → IsOneOf k qs → IsOneOf k (ps ++ qs)
+pub one_right : (k : SeatedPass) (ps qs : List SeatedPass) → IsOneOf k qs → IsOneOf k (ps ++ qs)
 one_right k [] qs i = i
 one_right k (p ∷ ps) qs i = inr (one_right k ps qs i)
 
@@ -106,10 +106,10 @@ in_more {allows} d ds all own joined k e j f a = rw (j, e) ((k, one_right k all 
 -- The end
 
 -- the layout and the planting of the table that is seen of a pass
-abbrev plot_seen : PassView → Plot
+abbrev pub plot_seen : PassView → Plot
 plot_seen p = record { layout = p.layout; planting = p.planting }
 
-owned_behind : (plot : Plot) (run : List Row) (owner : ℕ → ℕ) (id : ℕ) (k : SeatedPass) (ps : List SeatedPass) → Owns plot run owner id ps → IsOneOf k ps → (plot_of k ≡ plot) × Behind run k
+pub owned_behind : (plot : Plot) (run : List Row) (owner : ℕ → ℕ) (id : ℕ) (k : SeatedPass) (ps : List SeatedPass) → Owns plot run owner id ps → IsOneOf k ps → (plot_of k ≡ plot) × Behind run k
 owned_behind plot run owner id k [] o i = absurd i
 owned_behind plot run owner id k (p ∷ ps) o (inl e) = subst (λ (q : SeatedPass). (plot_of q ≡ plot) × Behind run q) (sym e) (o.1, o.2)
 owned_behind plot run owner id k (p ∷ ps) o (inr i) = owned_behind plot run owner id k ps o.4 i

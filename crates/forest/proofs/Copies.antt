@@ -9,20 +9,20 @@ use Rattle.arena.proofs.Lemmas.{word_same, word_apart}
 use Rattle.template.specs.Common.{Pair, class, rank, Tree, root, Shows, Spells}
 use Rattle.ordered_map.specs.TreeWords.{IsForkOver, Leaf, Fork, Has, pairs, leaf_nodes}
 use Rattle.ordered_map.proofs.Lemmas.{SameSettled, same_leaf, same_pairs}
-use Rattle.forest.specs.Copies.{IsMapWord, AreCopied, map_word}
+use Rattle.forest.specs.Copies.{IsMapWord, map_word}
 
 -- One word
 
--- the word has the same in both
-abbrev Same : Contents → Contents → Word → Type 0
-Same from to x = word_at to x ≡ word_at from x
+-- the word has what it is to have
+abbrev Same : (Word → ℕ) → Contents → Word → Type 0
+Same v to x = word_at to x ≡ v x
 
--- a copy of any word leaves those that are the same
-still_same : (from old new : Contents) (u x : Word) → IsChanged old new u (word_at from u) → IsWord old.layout x → Same from old x → Same from new x
-still_same from old new u x c i e = go (same_word u x) refl
+-- a copy of any word leaves those that have it
+still_same : (v : Word → ℕ) (old new : Contents) (u x : Word) → IsChanged old new u (v u) → IsWord old.layout x → Same v old x → Same v new x
+still_same v old new u x c i e = go (same_word u x) refl
   where
-    go : (b : Bool) → same_word u x ≡ b → Same from new x
-    go true s = subst (Same from new) (word_same u x s) c.changed
+    go : (b : Bool) → same_word u x ≡ b → Same v new x
+    go true s = subst (Same v new) (word_same u x s) c.changed
     go false s = c.others x i (word_apart u x s) ∙ e
 
 -- A node
@@ -66,38 +66,42 @@ numbered (Child Right) i = (omega arith, refl)
 numbered Info i = absurd i
 numbered Marked i = absurd i
 
--- the first k of the words of node n are copied, and all words of the nodes before it
-pub record AreCopiedTo (from to : Contents) (n k : ℕ) : Type 0 where
-  pub layout : to.layout ≡ from.layout
-  pub before : AreCopied from to n
-  pub here : (number : ℕ) → number < k → Same from to (node n (map_word number))
+-- the words that a map is read from have what they are to have, of the first n nodes
+abbrev pub AreCopiedAs : (Word → ℕ) → Contents → ℕ → Type 0
+AreCopiedAs v to n = (m : ℕ) (part : NodeWord) → m < n → IsMapWord part → Same v to (node m part)
+
+-- so it is of the nodes before node n, and of the first k of its words
+pub record AreCopiedTo (v : Word → ℕ) (lay : Layout) (to : Contents) (n k : ℕ) : Type 0 where
+  pub layout : to.layout ≡ lay
+  pub before : AreCopiedAs v to n
+  pub here : (number : ℕ) → number < k → Same v to (node n (map_word number))
 
 -- one word more
-pub copied_word : (from old new : Contents) (n k : ℕ) → n < all_nodes from.layout → AreCopiedTo from old n k → IsChanged old new (node n (map_word k)) (word_at from (node n (map_word k))) → AreCopiedTo from new n (k + 1)
-copied_word from old new n k inside x c = record {
+pub copied_word : (v : Word → ℕ) (lay : Layout) (old new : Contents) (n k : ℕ) → n < all_nodes lay → AreCopiedTo v lay old n k → IsChanged old new (node n (map_word k)) (v (node n (map_word k))) → AreCopiedTo v lay new n (k + 1)
+copied_word v lay old new n k inside x c = record {
   layout = c.layout ∙ x.layout;
-  before = λ m part less i. still_same from old new (node n (map_word k)) (node m part) c (table m (omega (arith, less, inside))) (x.before m part less i);
+  before = λ m part less i. still_same v old new (node n (map_word k)) (node m part) c (table m (omega (arith, less, inside))) (x.before m part less i);
   here = here;
 }
   where
-    table : (m : ℕ) → m < all_nodes from.layout → m < all_nodes old.layout
+    table : (m : ℕ) → m < all_nodes lay → m < all_nodes old.layout
     table m i = rw x.layout i
 
-    here : (number : ℕ) → number < k + 1 → Same from new (node n (map_word number))
+    here : (number : ℕ) → number < k + 1 → Same v new (node n (map_word number))
     here number less = ⊎_elim
-        (λ (e : number ≡ k). subst (λ (j : ℕ). Same from new (node n (map_word j))) (sym e) c.changed)
-        (λ (l : number < k). still_same from old new (node n (map_word k)) (node n (map_word number)) c (table n inside) (x.here number l))
+        (λ (e : number ≡ k). subst (λ (j : ℕ). Same v new (node n (map_word j))) (sym e) c.changed)
+        (λ (l : number < k). still_same v old new (node n (map_word k)) (node n (map_word number)) c (table n inside) (x.here number l))
         (eq-or-lt_of_le (omega (arith, less)))
 
 -- all of them
-pub copied_more : (from to : Contents) (n k : ℕ) → 16 ≤ k → AreCopiedTo from to n k → AreCopied from to (n + 1)
-copied_more from to n k all x m part less i = ⊎_elim
-    (λ (e : m ≡ n). subst (λ (j : ℕ). Same from to (node j part)) (sym e) here)
+pub copied_more : (v : Word → ℕ) (lay : Layout) (to : Contents) (n k : ℕ) → 16 ≤ k → AreCopiedTo v lay to n k → AreCopiedAs v to (n + 1)
+copied_more v lay to n k all x m part less i = ⊎_elim
+    (λ (e : m ≡ n). subst (λ (j : ℕ). Same v to (node j part)) (sym e) here)
     (λ (l : m < n). x.before m part l i)
     (eq-or-lt_of_le (omega arith))
   where
-    here : Same from to (node n part)
-    here = let p = numbered part i in subst (λ (q : NodeWord). Same from to (node n q)) p.1 (x.here (number_of part) (let few = p.0 in omega (arith, few, all)))
+    here : Same v to (node n part)
+    here = let p = numbered part i in subst (λ (q : NodeWord). Same v to (node n q)) p.1 (x.here (number_of part) (let few = p.0 in omega (arith, few, all)))
 
 -- What they spell
 
@@ -138,7 +142,7 @@ module _ (f g : Word → ℕ) (size : ℕ) (same : (n : ℕ) (part : NodeWord) �
   class_same n v i e = rw (same n (Settled Head) i tt) e
 
 -- its leaves are in it
-leaves_in : (P : ℕ → Type 0) (t : Tree) → ((n : ℕ) → Has t n → P n) → All P (leaf_nodes t)
+pub leaves_in : (P : ℕ → Type 0) (t : Tree) → ((n : ℕ) → Has t n → P n) → All P (leaf_nodes t)
 leaves_in P (Leaf n) has = All-cons P n [] (has n refl) (All-nil P)
 leaves_in P (Fork n a b) has = All-append P (leaf_nodes a) (leaf_nodes b) (leaves_in P a (λ m i. has m (inr (inl i)))) (leaves_in P b (λ m i. has m (inr (inr i))))
 
@@ -146,7 +150,7 @@ all_left : (P : ℕ → Type 0) (xs ys : List ℕ) → All P (xs ++ ys) → All 
 all_left P [] ys a = All-nil P
 all_left P (x ∷ xs) ys a = All-cons P x xs (All-head P x (xs ++ ys) a) (all_left P xs ys (All-tail P x (xs ++ ys) a))
 
-all_right : (P : ℕ → Type 0) (xs ys : List ℕ) → All P (xs ++ ys) → All P ys
+pub all_right : (P : ℕ → Type 0) (xs ys : List ℕ) → All P (xs ++ ys) → All P ys
 all_right P [] ys a = a
 all_right P (x ∷ xs) ys a = all_right P xs ys (All-tail P x (xs ++ ys) a)
 

@@ -15,10 +15,14 @@ use Rattle.forest.specs.declared.memory.PassMemory.{PassMemory}
 use Rattle.forest.specs.declared.view.SeatView.{SeatView}
 use Rattle.forest.specs.declared.pass.Pass.TheInside.{Inside}
 use Rattle.forest.specs.TableRule.{history_of}
-use Rattle.forest.specs.Traces.{IsSeated, Trace, HoldsForCall, memory_of, seat_steps, run_at}
+use Rattle.forest.specs.Traces.{IsSeated, Trace, HoldsForCall, memory_of, seat_steps, run_at, kept_of}
 use Rattle.forest.specs.Shares.{HasFewNames, EndsAsDealt, IsBetweenCalls, entries_of}
 use Rattle.forest.specs.Passes.{AreOfCall, HasBlamed, HasGoneOn, IsLaterView, run_of}
-use Rattle.forest.specs.PassInvariant.{pass_view, layout_in, IsPass}
+use Rattle.forest.specs.UpkeepKeeper.{StaysOut}
+use Rattle.forest.specs.UpkeepKept.{KeepsRight}
+use Rattle.forest.proofs.UpkeepKept.{keeps_right}
+use Rattle.planting.specs.Plantings.{PlantingView}
+use Rattle.forest.specs.PassInvariant.{pass_view, layout_in, IsPass, seated_in}
 use Rattle.forest.proofs.Frames.{entry_mine, entry_others}
 use Rattle.forest.proofs.Called.{course_calls, course_since}
 use Rattle.forest.proofs.Passes.{call_of, can_use_later, steps_are}
@@ -110,6 +114,10 @@ module _ {allows : Layout → History → ℕ → Type 0} {mode : Mode} {T : Typ
   -- it is a pass again
   pub ended_pass : s.me.1 ≡ p.seat.me.1 → HasEnded allows p s number A → IsBetweenCalls (layout_in p) p.number.0 (run_of (pass_view left_with)) left → (IsMap (layout_in p).mode → EndsAsDealt left (memory_of s.me.0.passes)) → HasBlamed (pass_view left_with) → IsPass allows mode left_with
   ended_pass bare y rest dealt blames = record { seat = y.seat; bare = bare ∙ x.bare; is_mode = x.is_mode; is_pass = x.is_pass; first_is = x.first_is; few = x.few; sound = y.sound; rest = rest; dealt = dealt; blamed = blames }
+
+  -- what it keeps of its own records is right still, if what it has lost stays out
+  pub ended_keeps : HasEnded allows p s number A → kept_of s.me.0.passes ≡ kept_of p.seat.me.0.passes → StaysOut (seated_in p) (seated_in left_with) → KeepsRight p.kept (seated_in p) → KeepsRight p.kept (seated_in left_with)
+  ended_keeps y same out keeps = keeps_right p.kept (seated_in p) (seated_in left_with) refl refl (ap (λ (k : PlantingView × PassMemory). k.0) same) (ap (λ (k : PlantingView × PassMemory). k.1) same) y.since out keeps
 
   -- and its run is extended
   pub ended_goes_on : (few most : ℕ) → s.table_id ≡ p.seat.table_id → HasEnded allows p s number A → seat_steps s.me.0.passes ≤ seat_steps p.seat.me.0.passes + few → few ≤ most → IsBetweenCalls (layout_in p) p.number.0 (run_of (pass_view left_with)) left → HasBlamed (pass_view left_with) → HasGoneOn allows (pass_view p) (pass_view left_with) number most blamed

@@ -54,7 +54,7 @@ own_word lay h r o s part l other its_own no_state no_flag = go (change lay h r 
     go (commits q k x) = value_apart r h (scx q StateWord) (scx s part) x.word (no_state q)
     go (aborts q j k x) = value_apart r h (scx q StateWord) (scx s part) x.word (no_state q)
 
-own_word_behind : (lay : Layout) (planting : PlantingView) (o s : ℕ) (part : ScxWord) (others known : List Row) → Lawful lay (history_of planting (others ++ known)) → ByOthers o others → IsOwnScx lay o s → ((q : ℕ) → same_word (scx q StateWord) (scx s part) ≡ false) → ((q : ℕ) → same_word (scx q AllFrozen) (scx s part) ≡ false) → value (history_of planting (others ++ known)) (scx s part) ≡ value (history_of planting known) (scx s part)
+pub own_word_behind : (lay : Layout) (planting : PlantingView) (o s : ℕ) (part : ScxWord) (others known : List Row) → Lawful lay (history_of planting (others ++ known)) → ByOthers o others → IsOwnScx lay o s → ((q : ℕ) → same_word (scx q StateWord) (scx s part) ≡ false) → ((q : ℕ) → same_word (scx q AllFrozen) (scx s part) ≡ false) → value (history_of planting (others ++ known)) (scx s part) ≡ value (history_of planting known) (scx s part)
 own_word_behind lay planting o s part [] known l by its_own no_state no_flag = refl
 own_word_behind lay planting o s part (r ∷ rs) known l by its_own no_state no_flag =
     own_word lay (history_of planting (rs ++ known)) r o s part l by.0 its_own no_state no_flag
@@ -218,6 +218,6 @@ module _ (allows : Layout → History → ℕ → Type 0) (t : Lasting) (plantin
         seat_view (aware allows t planting st kept id me.0 fits p one (memory_over p.memory s kept.run.rows) ∷ []),
         keeps,
         tt,
-        noted allows t planting stays st kept id me.0 fits p one at (memory_over p.memory s kept.run.rows) refl refl refl (with_note st kept fits (noted_as (Scx s) (MarkedOrDead kept.run.rows)) (ends_self h, inr (dead, tt))),
+        noted allows t planting stays st kept id me.0 fits p one at (memory_over p.memory s kept.run.rows) refl refl refl (with_note st kept fits (noted_as (Scx s) (MarkedOrDead kept.run.rows)) (ends_self h, inr (inl dead, tt))),
         ((kept.run.rows, learnt allows t planting st kept id me.0 fits p one refl), refl),
       )

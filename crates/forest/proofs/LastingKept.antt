@@ -10,6 +10,7 @@ use Rattle.planting.specs.Plantings.{PlantingView}
 use Rattle.ordered_map.specs.Runs.{IsMapRun}
 use Rattle.ordered_map.proofs.MapLemmas.{run_since}
 use Rattle.touching.proofs.Lemmas.{left_since, taken_scx_since}
+use Rattle.resting.specs.Reach.{IsOutOfReach}
 use Rattle.resting.specs.Records.{Record, record_of, the_node, the_scx}
 use Rattle.resting.specs.Rests.{HasRestedAt, HaveMovedOn}
 use Rattle.resting.proofs.Lemmas.{out_anew, out_since, taken_node_since}
@@ -56,10 +57,13 @@ module _ (t : Lasting) (planting : PlantingView) (a b : Present) (x : Later t a 
   gone_record_kept (the_node n) y = gone_kept n y
   gone_record_kept (the_scx s) y = tt
 
+  out_kept : (r : Record) → IsOutOfReach t.lay a.run a.last r → IsOutOfReach t.lay b.run b.last r
+  out_kept r y = out_anew t.lay b.run a.last b.last r x.moved (out_since t.lay a.run b.run a.last r x.within y)
+
   pub note_kept : (o : ℕ) (r : Record) (n : NoteView) → IsNoteSo t.lay planting o a r n → IsNoteSo t.lay planting o b r n
-  note_kept o r (MarkedOrDead rows) y = (ends_trans b.run a.run (history_of planting rows) x.within y.0, ⊎_elim inl (λ z. inr (z.0, gone_record_kept r z.1)) y.1)
-  note_kept o r (DeadBy rows) y = ((ends_trans b.run a.run (history_of planting rows) x.within y.0.0, y.0.1), gone_record_kept r y.1)
-  note_kept o r OutOfReach y = (out_anew t.lay b.run a.last b.last r x.moved (out_since t.lay a.run b.run a.last r x.within y.0), gone_record_kept r y.1)
+  note_kept o r (MarkedOrDead rows) y = (ends_trans b.run a.run (history_of planting rows) x.within y.0, ⊎_elim inl (λ z. inr (⊎_elim inl (λ out. inr (out_kept r out)) z.0, gone_record_kept r z.1)) y.1)
+  note_kept o r (DeadBy rows) y = ((ends_trans b.run a.run (history_of planting rows) x.within y.0.0, ⊎_elim inl (λ out. inr (out_kept r out)) y.0.1), gone_record_kept r y.1)
+  note_kept o r OutOfReach y = (out_kept r y.0, gone_record_kept r y.1)
   note_kept o (the_node n) (DoneWith j) y = y
   note_kept o (the_scx s) (DoneWith j) y = (y.0, ends_trans b.run a.run y.0 x.within y.1, y.2, y.3)
 

@@ -8,6 +8,7 @@ use Rattle.planting.specs.Plantings.{PlantingView}
 use Rattle.ordered_map.specs.Runs.{IsMapRun}
 use Rattle.resting.specs.Dead.{IsDead, IsMarkedNode, IsMarkedRecord, IsRemovedNode}
 use Rattle.resting.specs.Periods.{IsPeriod, IsRightNote, dead_by, marked_or_dead, out_of_reach}
+use Rattle.resting.specs.Reach.{IsOutOfReach}
 use Rattle.resting.specs.Records.{Record, the_node, the_scx}
 use Rattle.resting.specs.Rests.{AreSince, HaveRestedAt}
 use Rattle.slots.specs.Lasting.{Lasting}
@@ -50,10 +51,10 @@ module _ (lay : Layout) (planting : PlantingView) (known : Periods lay) (o : ℕ
         t : History
         t = history_of planting old
 
-        dead : IsMarkedRecord x t ⊎ IsDead lay o x t → IsRightNote lay o x a.run a.last (dead_by (history_of planting rows))
+        dead : IsMarkedRecord x t ⊎ (IsDead lay o x t ⊎ IsOutOfReach lay a.run a.last x) → IsRightNote lay o x a.run a.last (dead_by (history_of planting rows))
         dead z = subst (λ k. IsRightNote lay o x a.run a.last (dead_by k)) is_run (known.first o x a.run a.last t snapshot run.1.lawful after over (y.0, z))
 
-        go : IsMarkedRecord x t ⊎ (IsDead lay o x t × IsGoneRecord lay a.run a.last x) → IsNoteSo lay planting o a x (DeadBy rows)
+        go : IsMarkedRecord x t ⊎ ((IsDead lay o x t ⊎ IsOutOfReach lay a.run a.last x) × IsGoneRecord lay a.run a.last x) → IsNoteSo lay planting o a x (DeadBy rows)
         go (inl d) = (dead (inl d), marked_gone x t after d)
         go (inr d) = (dead (inr d.0), d.1)
     note_goes_on x (DeadBy old) after y = (known.second o x a.run a.last (history_of planting old) snapshot run is_pass rested since after y.0, y.1)

@@ -1,18 +1,18 @@
 -- What a pass sees of names keeps the rule of a table that lasts.
-use Rattle.std.proofs.Common.{◌≡◌, ◌<◌, ℕ, false, eq-eqb, ne_eqb, [], ◌∷◌, slice_index, inl, inr, refl, sym, ◌∙◌, ap, subst}
+use Rattle.std.proofs.Common.{◌≡◌, ◌<◌, ◌⊎◌, ℕ, false, eq-eqb, ne_eqb, [], ◌∷◌, slice_index, inl, inr, refl, sym, ◌∙◌, ap, subst}
 use native.Mathlib.Decide.{ℕ_discrete}
 use Rattle.atomic_table.specs.Table.{Me, Act, Allows, Valid, carried_after, keeps, stepped}
 use Rattle.histories.specs.Common.{Layout, History, NodeNo, value, node, marked, IsTakenNode, Word, Extends, IsWord}
 use Rattle.arena.specs.declared.word.NodeWord.TheVariants.{Marked}
-use Rattle.arena.proofs.Lemmas.{ends_self}
+use Rattle.arena.proofs.Lemmas.{ends_self, ends_trans}
 use Rattle.histories.proofs.Lemmas.{own_node_inside}
 use Rattle.planting.specs.Plantings.{PlantingView}
 use Rattle.resting.specs.Records.{Record, the_node, the_scx, record_of}
 use Rattle.resting.specs.Reach.{IsOutOfReach}
-use Rattle.resting.proofs.Lemmas.{unborn_out, unnamed_out}
+use Rattle.ordered_map.specs.Runs.{IsMapRun}
+use Rattle.resting.proofs.Lemmas.{out_sorts, out_stays, unborn_out, unnamed_out}
 use Rattle.slots.specs.Lasting.{Lasting, table_place}
-use Rattle.resting.specs.Dead.{HasLeftUnmarked}
-use Rattle.touching.proofs.Lemmas.{left_since}
+use Rattle.resting.specs.Dead.{HasLeftUnmarked, IsDead, IsMarkedNode, IsOut, IsUnborn}
 use Rattle.slots.specs.Held.{IsHeld}
 use Rattle.forest.specs.TableRule.{history_of, past_of, seat_view}
 use Rattle.forest.specs.LastingMemory.{IsGoneRecord, IsHeldName, Present, RemembersWell, StaysUnborn, record_at}
@@ -97,21 +97,49 @@ module _ (allows : Layout → History → ℕ → Type 0) (t : Lasting) (plantin
         ((kept.run.rows, learnt allows t planting s kept id me.0 fits p one refl), refl),
       )
 
-  -- a node that has left with no mark, as the pass knows, at a load of any word
-  pub lasting_left : (at : ℕ) (n : NodeNo) → HasLeftUnmarked (past_of p []) n.0 → Allows (TableLasts allows t planting) slots id me at (λ v. v) (λ v w. LearnsWith allows (λ rows. memory_left p.memory n p.known) me.0 w.0 × (w.1 ≡ me.1))
-  lasting_left at n left s kept sized fits small =
-      let h : History = history_of planting kept.run.rows in
-      let then : History = history_of planting p.known in
-      let names = (well allows t planting s kept id me.0 fits p one).names in
-      let within : Extends h then = behind_known allows t planting s kept id me.0 fits p one in
-      let here : HasLeftUnmarked then n.0 = subst (λ (g : Plot). HasLeftUnmarked (history_of g.planting p.known) n.0) (own allows t planting s kept id me.0 fits p one).1 left in (
-        seat_view (aware allows t planting s kept id me.0 fits p one (memory_left p.memory n p.known) ∷ []),
-        keeps,
-        tt,
-        noted allows t planting stays s kept id me.0 fits p one at (memory_left p.memory n p.known) refl refl refl
-            (with_notes allows t planting stays s kept id me.0 fits p one at (memory_left p.memory n p.known).notes ((within, inr (inr (inl here), inr (inl (left_since t.lay h then n.0 kept.run.window.run within here.left)))), names.notes)),
-        ((kept.run.rows, learnt allows t planting s kept id me.0 fits p one refl), refl),
-      )
+  -- a node of its own that the pass had taken as it rested, and that is out since, as it knows, at a
+  -- load of any word
+  pub lasting_left : (at : ℕ) (n : NodeNo) (m : History) → p.memory.away ≡ false → Extends (past_of p []) m → IsOut p.layout p.number.0 (history_of p.planting p.memory.rested) m n.0 → Allows (TableLasts allows t planting) slots id me at (λ v. v) (λ v w. LearnsWith allows (memory_left p.memory n) me.0 w.0 × (w.1 ≡ me.1))
+  lasting_left at n m there by out s kept sized fits small = (
+    seat_view (aware allows t planting s kept id me.0 fits p one (memory_left p.memory n kept.run.rows) ∷ []),
+    keeps,
+    tt,
+    noted allows t planting stays s kept id me.0 fits p one at (memory_left p.memory n kept.run.rows) refl refl refl
+        (with_notes allows t planting stays s kept id me.0 fits p one at (memory_left p.memory n kept.run.rows).notes ((ends_self h, go (out_sorts t.lay o rest h n.0 here run)), recalls.names.notes)),
+    ((kept.run.rows, learnt allows t planting s kept id me.0 fits p one refl), refl),
+  )
+    where
+      o : ℕ
+      o = p.number.0
+
+      h : History
+      h = history_of planting kept.run.rows
+
+      rest : History
+      rest = kept.run.last o
+
+      run : IsMapRun t.lay h
+      run = kept.run.window.run
+
+      before : Present
+      before = now allows t planting s kept id me.0 fits p one
+
+      recalls : RemembersWell t planting before o p.memory
+      recalls = well allows t planting s kept id me.0 fits p one
+
+      known_out : IsOut t.lay o rest m n.0
+      known_out = subst (λ k. IsOut t.lay o k m n.0) (sym (recalls.rested there)) (subst (λ (g : Plot). IsOut g.layout o (history_of g.planting p.memory.rested) m n.0) (own allows t planting s kept id me.0 fits p one).1 out)
+
+      later : Extends h m
+      later = ends_trans h (history_of planting p.known) m (behind_known allows t planting s kept id me.0 fits p one) (subst (λ (g : Plot). Extends (history_of g.planting p.known) m) (own allows t planting s kept id me.0 fits p one).1 by)
+
+      here : IsOut t.lay o rest h n.0
+      here = out_stays t.lay o rest m n.0 known_out h run is_pass later (kept.run.window.rested o is_pass)
+
+      go : IsMarkedNode h n.0 ⊎ (HasLeftUnmarked h n.0 ⊎ IsUnborn t.lay o rest n.0) → IsMarkedNode h n.0 ⊎ ((IsDead t.lay o (the_node n.0) h ⊎ IsOutOfReach t.lay h kept.run.last (the_node n.0)) × IsGoneRecord t.lay h kept.run.last (the_node n.0))
+      go (inl d) = inl d
+      go (inr (inl d)) = inr (inl (inr (inl d)), inr (inl d.left))
+      go (inr (inr d)) = inr (inr (unborn_out t.lay h kept.run.last o n.0 is_pass d), inr (inr (o, is_pass, d)))
 
   -- a load of a word of a name that an own slot holds
   pub lasting_loads : (name : RecordNo) (u : Word) → IsAmongThese name p.memory.holds → record_of u ≡ record_at name → IsWord t.lay u → Allows (TableLasts allows t planting) slots id me (table_place t u) (λ v. v) (λ v w. LoadsWord allows p u v me.0 w.0 × (w.1 ≡ me.1))

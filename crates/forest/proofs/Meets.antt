@@ -40,7 +40,7 @@ module _ (allows : Layout → History → ℕ → Type 0) (p q : SeatedPass) whe
 
 -- What a look leaves
 
-ends_more : (planting : PlantingView) (rows known : List Row) → Extends (history_of planting (rows ++ known)) (history_of planting known)
+pub ends_more : (planting : PlantingView) (rows known : List Row) → Extends (history_of planting (rows ++ known)) (history_of planting known)
 ends_more planting [] known = ends_self (history_of planting known)
 ends_more planting (r ∷ rs) known = inr (ends_more planting rs known)
 

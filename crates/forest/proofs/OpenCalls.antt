@@ -1,7 +1,8 @@
 -- What a call that was held open leaves of its pass, once it has answered.
 use Rattle.template.specs.Balance.{map_mode}
-use Rattle.std.proofs.Common.{◌≡◌, ◌+◌, ◌-◌, ℕ, Bool, List, refl, sym, ap, subst, arith}
-use Rattle.histories.specs.Common.{Done, PassNo, Remaining}
+use Rattle.std.proofs.Common.{◌≡◌, ◌<◌, ◌≤◌, ◌+◌, ◌-◌, ℕ, Bool, List, refl, sym, ap, subst, arith}
+use Rattle.histories.specs.Common.{Done, Extends, Layout, PassNo, Remaining}
+use Rattle.resting.specs.Dead.{IsUnborn}
 use Rattle.dict.specs.Calls.{call_in, share_of}
 use Rattle.dict.specs.Typed.{TypedAllows}
 use Rattle.dict.specs.Words.{IsWordOf}
@@ -11,14 +12,22 @@ use Rattle.dict.specs.declared.shape.Dict.{Dict}
 use Rattle.forest.specs.declared.open.OpenCall.TheInside.{Inside}
 use Rattle.forest.specs.declared.pass.Pass.TheInside as pass
 use Rattle.forest.specs.Dictionary.{HasCalledIn, blamed_by_reply}
-use Rattle.forest.specs.OpenInvariant.{IsOpen, next_call, pass_as}
-use Rattle.forest.specs.Passes.{Ground, IsOf, steps_of}
-use Rattle.forest.specs.PassInvariant.{IsPass, pass_view, layout_in}
+use Rattle.forest.specs.OpenInvariant.{IsOpen, KeepsOwn, next_call, pass_as}
+use Rattle.forest.specs.Passes.{Ground, IsOf, run_of, steps_of}
+use Rattle.forest.specs.PassInvariant.{IsPass, pass_view, layout_in, seated_in}
 use Rattle.forest.specs.CallSteps.{HasDictLeft}
-use Rattle.forest.specs.Traces.{Stands, seat_steps}
+use Rattle.forest.specs.TableRule.{seated_pass}
+use Rattle.forest.specs.Traces.{Stands, memory_of, run_at, seat_steps}
+use Rattle.forest.specs.UpkeepKeeper.{StaysOut}
+use Rattle.forest.specs.UpkeepKept.{KeepsRight}
+use Rattle.forest.specs.UpkeepLost.{AreUnborn, IsLostReply}
+use Rattle.forest.specs.declared.view.SeatedPass.{SeatedPass}
 use Rattle.forest.specs.StraightCalls.{IsSameDictCall, SeatDictEnds}
+use Rattle.forest.proofs.CallStays.{call_keeps_out, call_lost}
 use Rattle.forest.proofs.DictCalls.{behind, dict_pass}
 use Rattle.forest.proofs.Passes.{steps_are}
+use Rattle.forest.proofs.UpkeepKept.{keeps_right}
+use Rattle.forest.proofs.UpkeepStays.{PutsInNone}
 use Rattle.forest.proofs.WholeCalls.{ended, left_end, says, stays_dealt}
 
 module _ {K V B : Type 0} (valid_key : K → Type 0) (key : K → ℕ) (valid_value : V → Type 0) (value_word : V → ℕ) {trie : Bool} (o : Inside K V B) (x : IsOpen valid_key key valid_value value_word trie o) (reply : Reply K V) (is : o.turn ≡ Done reply) where
@@ -32,7 +41,28 @@ module _ {K V B : Type 0} (valid_key : K → Type 0) (key : K → ℕ) (valid_va
   module _ (left : Remaining) (blamed : List ℕ) (gives : left ≡ share_of o.run.run) (blames : blamed ≡ blamed_by_reply reply o.blamed) where
     -- the pass that is given back
     abbrev pub back : pass.Inside (Dict K V B)
-    back = record { number = o.number; first_scx = o.first_scx; share = left; seat = o.seat; blamed = blamed; birth = o.birth; room = o.room; shape = record {} }
+    back = record { number = o.number; first_scx = o.first_scx; share = left; seat = o.seat; blamed = blamed; birth = o.birth; room = o.room; kept = o.kept; shape = record {} }
+
+    -- what it keeps is right, and what the call has taken is out, if it was lost
+    abbrev as_began : SeatedPass
+    as_began = seated_pass o.number.0 (layout_in back) o.began.value.planting (memory_of o.seat.me.0.passes) o.began.value.known
+
+    began_since : Extends (run_at o.seat.me.0.passes) (run_of o.began.value)
+    began_since = (ended valid_key key valid_value value_word trie was x.pass o.seat x.first o.run reply ends).since
+
+    out_since : StaysOut as_began (seated_in back)
+    out_since = subst (λ (l : Layout). (n : ℕ) → IsUnborn l o.number.0 (run_of o.began.value) n → IsUnborn l o.number.0 (run_at o.seat.me.0.passes) n) (sym x.kept.layout)
+        (subst (λ k. (n : ℕ) → IsUnborn o.began.value.layout k (run_of o.began.value) n → IsUnborn o.began.value.layout k (run_at o.seat.me.0.passes) n) (sym x.kept.number)
+        (call_keeps_out valid_key key valid_value value_word trie was x.pass o.seat x.first o.run reply ends left blamed))
+
+    pub open_keeps : KeepsOwn o → KeepsRight o.kept (seated_in back)
+    open_keeps keeps = keeps_right o.kept as_began (seated_in back) refl refl keeps.planting refl began_since out_since keeps.kept
+
+    pub open_lost : PutsInNone → KeepsOwn o → (to : ℕ) → to ≡ left.next_node → IsLostReply reply → AreUnborn (seated_in back) o.from.0 to
+    open_lost law keeps to next is n from less = subst (λ (l : Layout). IsUnborn l o.number.0 (run_at o.seat.me.0.passes) n) (sym x.kept.layout)
+        (subst (λ k. IsUnborn o.began.value.layout k (run_at o.seat.me.0.passes) n) (sym x.kept.number)
+        (call_lost valid_key key valid_value value_word trie was x.pass o.seat x.first o.run reply ends law is n
+        (let e = keeps.from in omega (arith, e, from)) (let e : left.next_node ≡ (share_of o.run.run).next_node = ap (λ (l : Remaining). l.next_node) gives in omega (arith, e, next, less))))
 
     -- what contracts see of it
     back_is : pass_view back ≡ pass_view (behind valid_key key valid_value value_word trie was x.pass o.seat o.run reply)

@@ -1,8 +1,8 @@
 -- A call that is held open stays one, step by step.
 use Rattle.template.specs.Balance.{nodes_by}
-use Rattle.std.proofs.Common.{◌≡◌, ◌∙◌, ◌+◌, ◌<◌, ◌≤◌, ℕ, suc, Bool, true, false, List, refl, sym, subst, arith}
+use Rattle.std.proofs.Common.{◌≡◌, ◌∙◌, ◌++◌, ◌+◌, ◌<◌, ◌≤◌, ℕ, suc, Bool, true, false, List, [], ◌∷◌, Option, inr, ap, refl, sym, subst, arith}
 use Rattle.atomic_table.specs.declared.shared.Seat.{Seat}
-use Rattle.histories.specs.Common.{Layout, Step, Turn, Ask, Done, Call, IsRun, MatchTurn}
+use Rattle.histories.specs.Common.{Extends, Kind, Layout, Step, Turn, Ask, Done, Call, IsRun, MatchTurn}
 use Rattle.dict.specs.Calls.{call_in, AsksForPairs}
 use Rattle.dict.specs.DictKnown.{DictWaits, DictAnswers}
 use Rattle.template.specs.Common.{most_steps, Reply}
@@ -14,18 +14,33 @@ use Rattle.forest.specs.declared.open.OpenCall.TheInside.{Inside}
 use Rattle.forest.specs.declared.view.SeatedPass.{SeatedPass}
 use Rattle.forest.specs.declared.view.SeatView.{SeatView}
 use Rattle.forest.specs.Hosts.{Host, HostedStands, HostedWaits}
-use Rattle.forest.specs.OpenInvariant.{IsOpen, next_call}
+use Rattle.forest.specs.OpenInvariant.{IsOpen, KeepsOwn, next_call}
 use Rattle.forest.specs.Passes.{steps_of}
 use Rattle.forest.specs.StraightCalls.{IsSameDictCall}
 use Rattle.forest.specs.CallSteps.{HasDictLeft}
-use Rattle.forest.specs.TableRule.{history_of}
-use Rattle.forest.specs.Traces.{Stands, seat_steps, shared_nodes, weight, run_at}
+use Rattle.forest.specs.TableRule.{history_of, seated_pass}
+use Rattle.forest.specs.Traces.{Stands, kept_of, layout_at, seat_steps, shared_nodes, weight, run_at}
 use Rattle.forest.proofs.Advances.{weighs}
 use Rattle.forest.proofs.Calls.{course_keeps}
 use Rattle.forest.proofs.DictCalls.{IsSameCall}
+use Rattle.planting.specs.Plantings.{PlantingView}
+use Rattle.forest.specs.UpkeepKept.{KeepsRight}
+use Rattle.forest.specs.declared.memory.PassMemory.{PassMemory}
 use Rattle.forest.proofs.Hosts.{own, own_call, own_stands}
 use Rattle.forest.proofs.StepKinds.{waits_asks}
 use Rattle.forest.proofs.StraightCalls.{dict_calls}
+
+-- what it keeps of its own records was right as it began, whatever step it makes
+pub step_keeps : {K V B : Type 0} (o : Inside K V B) (s : Seat ℕ SeatView) (m : DictRun K V) (turn : Turn (Reply K V)) (over : Bool) → kept_of s.me.0.passes ≡ kept_of o.seat.me.0.passes → KeepsOwn o → KeepsOwn (record o { seat = s; run = m; turn = turn; over = over })
+step_keeps o s m turn over same x = record {
+  from = x.from;
+  planting = ap (λ (k : PlantingView × PassMemory). k.0) same ∙ x.planting;
+  kept = subst (λ (k : PassMemory). KeepsRight o.kept (seated_pass o.number.0 (layout_at o.birth.value.me.0.passes) o.began.value.planting k o.began.value.known)) (sym (ap (λ (k : PlantingView × PassMemory). k.1) same)) x.kept;
+}
+
+-- so it is once it is over
+pub over_keeps : {K V B : Type 0} (o : Inside K V B) → KeepsOwn o → KeepsOwn (record o { over = true })
+over_keeps o x = record { from = x.from; planting = x.planting; kept = x.kept }
 
 pub differ : true ≡ false → ⊥
 differ e = cc

@@ -6,6 +6,7 @@ use Rattle.ordered_map.specs.Runs.{IsMapRun}
 use Rattle.touching.specs.Left.{HasLeft}
 use Rattle.resting.specs.Dead.{IsDead, IsMarkedRecord, IsUnborn, WasDoneWith}
 use Rattle.resting.specs.Periods.{IsRightNote, dead_by, out_of_reach}
+use Rattle.resting.specs.Reach.{IsOutOfReach}
 use Rattle.resting.specs.Records.{Record, record_of, the_node, the_scx}
 use Rattle.resting.specs.Rests.{HasRestedAt}
 use Rattle.slots.specs.Counts.{HasSeenRests, Tally}
@@ -60,7 +61,7 @@ IsDoneWith lay h (the_scx s) j = WasDoneWith lay h s j
 -- The pass's note of a record is right; and if it is dead, or out of reach, it is gone. A note of a
 -- node's place says that the SCX-record was done with that node.
 abbrev pub IsNoteSo : Layout → PlantingView → ℕ → Present → Record → NoteView → Type 0
-IsNoteSo lay planting o now x (MarkedOrDead rows) = Extends now.run (history_of planting rows) × (IsMarkedRecord x (history_of planting rows) ⊎ (IsDead lay o x (history_of planting rows) × IsGoneRecord lay now.run now.last x))
+IsNoteSo lay planting o now x (MarkedOrDead rows) = Extends now.run (history_of planting rows) × (IsMarkedRecord x (history_of planting rows) ⊎ ((IsDead lay o x (history_of planting rows) ⊎ IsOutOfReach lay now.run now.last x) × IsGoneRecord lay now.run now.last x))
 IsNoteSo lay planting o now x (DeadBy rows) = IsRightNote lay o x now.run now.last (dead_by (history_of planting rows)) × IsGoneRecord lay now.run now.last x
 IsNoteSo lay planting o now x OutOfReach = IsRightNote lay o x now.run now.last out_of_reach × IsGoneRecord lay now.run now.last x
 IsNoteSo lay planting o now x (DoneWith j) = IsDoneWith lay now.run x j

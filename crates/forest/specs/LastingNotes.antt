@@ -84,7 +84,7 @@ memory_noted m chosen rows = record m { notes = further_all rows chosen m.notes 
 abbrev pub memory_marked : PassMemory → RecordNo → (n : ℕ) → List Row → PassMemory
 memory_marked m name n rows = if n == 0 then m else record m { notes = noted_as name (MarkedOrDead rows) ∷ m.notes }
 
--- what is remembered of a node that had left with no mark after these rows
+-- what is remembered of a node that was out of the tree after these rows
 abbrev pub memory_left : PassMemory → NodeNo → List Row → PassMemory
 memory_left m n rows = record m { notes = noted_as (Node n) (MarkedOrDead rows) ∷ m.notes }
 

@@ -28,7 +28,9 @@ pub mod Lasts
 pub mod Leads
 pub mod InnerSteps
 pub mod JoinedSeats
+pub mod UpkeepKept
 pub mod PassInvariant
+pub mod AwayInvariant
 pub mod Dictionary
 pub mod StepKinds
 pub mod Opened
@@ -40,4 +42,16 @@ pub mod LastingSlots
 pub mod LastingNames
 pub mod LastingRule
 pub mod LastingOpening
+pub mod LastingTables
 pub mod Ruled
+pub mod UpkeepSteps
+pub mod UpkeepPeriod
+pub mod UpkeepBook
+pub mod UpkeepDeals
+pub mod UpkeepKeeper
+pub mod UpkeepLost
+pub mod Rests
+pub mod LastingMeets
+pub mod Remains
+pub mod UpkeepScx
+pub mod UpkeepOpening

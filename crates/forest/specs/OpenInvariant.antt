@@ -1,6 +1,6 @@
 -- What is true of the fields of every call that is held open.
 use Rattle.template.specs.Balance.{map_mode, nodes_by}
-use Rattle.std.specs.Prelude.{◌≡◌, ◌+◌, ◌-◌, ◌<◌, ◌≤◌, ℕ, Bool, true, false, List, [], ◌∷◌}
+use Rattle.std.specs.Prelude.{◌≡◌, ◌+◌, ◌-◌, ◌<◌, ◌≤◌, ℕ, Bool, true, false, None, List, [], ◌∷◌}
 use Rattle.atomic_table.specs.declared.shared.Seat.{Seat}
 use Rattle.histories.specs.Common.{Call, Layout, MatchTurn, first_scx}
 use Rattle.dict.specs.Calls.{call_in, share_of, AsksForPairs}
@@ -22,7 +22,8 @@ use Rattle.forest.specs.Passes.{PassView, run_of, steps_of, taken_of}
 use Rattle.forest.specs.PassInvariant.{IsPass}
 use Rattle.forest.specs.StraightCalls.{IsSameDictCall}
 use Rattle.forest.specs.TableRule.{dealt_up_to, seated_pass}
-use Rattle.forest.specs.Traces.{Stands, known_of, layout_at, planting_of, seat_steps, shared_nodes, weight, KnowsAs}
+use Rattle.forest.specs.UpkeepKept.{KeepsRight}
+use Rattle.forest.specs.Traces.{Stands, known_of, layout_at, memory_of, planting_of, seat_steps, shared_nodes, weight, KnowsAs}
 
 -- what contracts see of a call that is held open
 abbrev pub open_view : {K V B : Type 0} → Inside K V B → OpenView
@@ -52,6 +53,7 @@ pass_as p s room = record {
   blamed = p.blamed;
   birth = record { value = seat_as p s; marker = record {} };
   room = room;
+  kept = None;
   shape = record {};
 }
 
@@ -67,6 +69,17 @@ pub record KeepsPass (began : PassView) (n : ℕ) (lay : Layout) (first_of next 
   pub first : first_of ≡ first_scx began.layout began.number
   pub call : next ≡ taken_of began
   pub blamed : blames ≡ began.blamed
+
+-- what its pass keeps of its own was right as the call began, with what it remembers, and the call
+-- knows which node its share gave next then
+pub record KeepsOwn {K V B : Type 0} (o : Inside K V B) : Type 0 where
+  pub from : o.from.0 ≡ o.began.value.share.next_node
+  pub planting : planting_of o.seat.me.0.passes ≡ o.began.value.planting
+  pub kept : KeepsRight o.kept (seated_pass o.number.0 (layout_at o.birth.value.me.0.passes) o.began.value.planting (memory_of o.seat.me.0.passes) o.began.value.known)
+
+-- so it is where records come back
+abbrev pub CallKeepsItsOwn : (lasts : Bool) {K V B : Type 0} → Inside K V B → Type 0
+CallKeepsItsOwn lasts o = lasts ≡ true → KeepsOwn o
 
 -- what holds of every call that is held open
 pub record IsOpen {K V B : Type 0} (valid_key : K → Type 0) (key : K → ℕ) (valid_value : V → Type 0) (value : V → ℕ) (trie : Bool) (o : Inside K V B) : Type 0 where

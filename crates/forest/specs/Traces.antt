@@ -112,6 +112,12 @@ kept_of ps = (planting_of ps, memory_of ps)
 abbrev pub rest_at : List SeatedPass → History
 rest_at ps = history_of (planting_of ps) (memory_of ps).rested
 
+-- A seat has the pass of this number alone, which may be away, and has rested last at a moment of
+-- the run that it knows.
+pub record IsSeatedOrAway (n : ℕ) (lay : Layout) (ps : List SeatedPass) : Type 0 where
+  pub alone : ps ≡ seated_pass n lay (planting_of ps) (memory_of ps) (known_of ps) ∷ []
+  pub since : Extends (run_at ps) (rest_at ps)
+
 -- A seat has the pass of this number alone, which is there, and has rested last at a moment of the
 -- run that it knows.
 pub record IsSeated (n : ℕ) (lay : Layout) (ps : List SeatedPass) : Type 0 where

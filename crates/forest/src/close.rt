@@ -21,7 +21,7 @@ ghost use Rattle.forest.specs.JoinedSeats.{IsFrom, AreIn};
 
 use crate::forest::Forest;
 use crate::pass::Pass;
-use crate::table_shape::{TableOnce, Upkeep};
+use crate::table_shape::{Keeping, TableOnce};
 use crate::view::SeatView;
 use crate::words::Words;
 use arena::{
@@ -68,7 +68,7 @@ impl Closed<Cells> {
     }
 }
 
-impl<K: WordKey, V: WordValue, B: Upkeep> Closed<Dict<K, V, B>> {
+impl<K: WordKey, V: WordValue, B: Keeping> Closed<Dict<K, V, B>> {
     /// The pairs of the map, by rising key, as its run has left them. The only error is want of
     /// memory: it copies the words of all nodes first.
     pub fn pairs(&self, alloc: Global) -> Result<Vec<(K, V)>, NoMemory>
@@ -135,10 +135,10 @@ impl<S: Shape> Closed<S> {
 }
 
 /// How many words of a node a map is read from.
-const MAP_WORDS: u8 = 16;
+pub(crate) const MAP_WORDS: u8 = 16;
 
 /// Each of them by its number.
-fn map_word(number: u8) -> NodeWord
+pub(crate) fn map_word(number: u8) -> NodeWord
     ensures { result ≡ map_word number }
 {
     match number {
@@ -194,6 +194,7 @@ impl<S: TableOnce> Forest<S> {
         let Forest {
             words,
             plan,
+            turns: _,
             tries: _,
         } = self;
         let layout = plan.layout;
@@ -217,6 +218,7 @@ impl<S: TableOnce> Forest<S> {
         let Forest {
             words,
             plan,
+            turns: _,
             tries: _,
         } = self;
         let layout = plan.layout;
@@ -230,7 +232,7 @@ impl<S: TableOnce> Forest<S> {
 }
 
 /// One seat with all these passes.
-fn gather<S: Shape>(
+fn gather<S: TableOnce>(
     words: &Words<S>,
     layout: &Layout,
     mut passes: Vec<Pass<S>>,
@@ -250,7 +252,7 @@ fn gather<S: Shape>(
 }
 
 /// The seat of a pass, which has looked at the table once more.
-fn seat_of<S: Shape>(words: &Words<S>, layout: &Layout, pass: Pass<S>) -> Seat<u8, SeatView>
+fn seat_of<S: TableOnce>(words: &Words<S>, layout: &Layout, pass: Pass<S>) -> Seat<u8, SeatView>
     requires table { IsTableOnce words.now.table.shared.table_id words.now.table.shared.key layout.now }
     requires pass { IsOn words.now.table.shared.table_id (names_of_table words.now.table.shared.key) pass }
     ensures table { result.table_id ≡ words.now.table.shared.table_id }
@@ -265,6 +267,7 @@ fn seat_of<S: Shape>(words: &Words<S>, layout: &Layout, pass: Pass<S>) -> Seat<u
         blamed: _,
         birth: _,
         room: _,
+        kept: _,
         shape: _,
     } = pass;
     let mut seat = seat;

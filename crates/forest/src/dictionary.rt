@@ -20,10 +20,12 @@ use crate::forest::Forest;
 use crate::pass::Pass;
 use crate::straight::hand::Hand;
 use crate::straight::{calls, walk};
-use crate::table_shape::{FilledOnce, Upkeep};
+use crate::table_shape::{FilledOnce, Keeping};
+use crate::upkeep::kept::note_lost;
 use arena::{Limits, NoMemory, PassNo, Shape, Share};
 use dict::{Dict, DictRun, Reply, Request, WordKey, WordValue, number_of, value_of};
 use order::leaf_way;
+use resting::unborn_stays_out;
 use std::alloc::Global;
 use std::mem::replace;
 use template::{Goal, map_mode};
@@ -112,7 +114,7 @@ impl<K: WordKey, V: WordValue, B: FilledOnce> Forest<Dict<K, V, B>> {
     }
 }
 
-impl<K: WordKey, V: WordValue, B: Upkeep> Forest<Dict<K, V, B>> {
+impl<K: WordKey, V: WordValue, B: Keeping> Forest<Dict<K, V, B>> {
     /// Sets a key to a value, and returns the value that the key had just before. It takes at most
     /// three nodes and an SCX-record of the pass's share in a try, and no memory. The pass blames
     /// the SCX-record that `Contended` names. After Brown, Ellen and Ruppert (PPoPP 2014), as are
@@ -345,7 +347,9 @@ impl<K: WordKey, V: WordValue, B: Upkeep> Forest<Dict<K, V, B>> {
             },
             rule: edit.rule,
         };
+        unborn_stays_out();
         let number = pass.taken();
+        let (from, _) = pass.share.next();
         let share = replace(&mut pass.share, Share::of(&self.plan.layout, PassNo(0)));
         let hand = Hand {
             words: &self.words,
@@ -355,8 +359,10 @@ impl<K: WordKey, V: WordValue, B: Upkeep> Forest<Dict<K, V, B>> {
         };
         let seat = &mut pass.seat;
         let (told, share) = calls::make(hand, seat, share, self.tries, edit);
+        let (to, _) = share.next();
         pass.share = share;
         pass.blamed.note_reply(&told);
+        note_lost::<K, V, B>(&mut pass.kept, &told, from, to);
         told
     }
 

@@ -7,13 +7,13 @@ ghost use Rattle.arena.specs.declared.word.NodeWord.{NodeWord};
 ghost use Rattle.arena.specs.declared.word.Word.{Word};
 ghost use Rattle.arena.specs.Fills.{IsTakenNode, IsTakenScx};
 ghost use Rattle.arena.specs.ScxRecords.{count, member};
-ghost use Rattle.arena.specs.History.{value};
+ghost use Rattle.arena.specs.History.{Extends, History, value};
 ghost use Rattle.arena.specs.Words.{info, node};
 ghost use Rattle.arena.specs.Layout.{IsWord, place};
 ghost use Rattle.planting.specs.Plantings.{PlantingView};
 ghost use Rattle.prims.specs.Moments.{AreFinished};
 ghost use Rattle.touching.specs.Kinds.{IsInTree};
-ghost use Rattle.resting.specs.Dead.{HasLeftUnmarked, WasDoneWith};
+ghost use Rattle.resting.specs.Dead.{IsOut, WasDoneWith};
 ghost use Rattle.resting.specs.Records.{record_of, the_node};
 ghost use Rattle.slots.specs.Held.{IsHeld};
 ghost use Rattle.slots.specs.Lasting.{Lasting, table_place};
@@ -31,8 +31,9 @@ use arena::Shape;
 use resting::{dead_comes_back, unborn_stays_out};
 
 /// A pass loads words of the names that its own slots hold, and sees which nodes are marked; it
-/// notes which have left with no mark, as it knows, and that a name is out of reach that was of no
-/// use to it as it rested. It does nothing; a caller learns this from its contract.
+/// notes which of those that it had taken as it rested are out of the tree since, as it knows, and
+/// that a name is out of reach that was of no use to it then. It does nothing; a caller learns this
+/// from its contract.
 pub fn sights_last<S: Shape>()
     ensures marks { (t : Lasting) (planting : PlantingView) (slots id : ℕ) (me : Me ℕ SeatView)
         (p : SeatedPass) (node : NodeNo) → me.0.passes ≡ p ∷ [] → p.number.0 < t.lay.passes
@@ -48,10 +49,11 @@ pub fn sights_last<S: Shape>()
         → Allows (TableLasts S.allows t planting) slots id me (table_place t word) (λ n. n)
         (λ n w. LoadsWord S.allows p word n me.0 w.0 × (w.1 ≡ me.1)) }
     ensures left { (t : Lasting) (planting : PlantingView) (slots id : ℕ) (me : Me ℕ SeatView)
-        (p : SeatedPass) (at : ℕ) (node : NodeNo) → me.0.passes ≡ p ∷ [] → p.number.0 < t.lay.passes
-        → HasLeftUnmarked (past_of p []) node.0
+        (p : SeatedPass) (at : ℕ) (node : NodeNo) (m : History) → me.0.passes ≡ p ∷ []
+        → p.number.0 < t.lay.passes → p.memory.away ≡ false → Extends (past_of p []) m
+        → IsOut p.layout p.number.0 (history_of p.planting p.memory.rested) m node.0
         → Allows (TableLasts S.allows t planting) slots id me at (λ n. n)
-        (λ n w. LearnsWith S.allows (λ rows. memory_left p.memory node p.known) me.0 w.0
+        (λ n w. LearnsWith S.allows (memory_left p.memory node) me.0 w.0
         × (w.1 ≡ me.1)) }
     ensures unused { (t : Lasting) (planting : PlantingView) (slots id : ℕ)
         (me : Me ℕ SeatView) (p : SeatedPass) (at : ℕ) (name : RecordNo)

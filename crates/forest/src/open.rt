@@ -19,11 +19,13 @@ use crate::pass::Pass;
 use crate::room::Room;
 use crate::steps::advance;
 use crate::straight::hand::Hand;
-use crate::table_shape::Upkeep;
+use crate::table_shape::Keeping;
+use crate::upkeep::kept::{Kept, note_lost};
 use crate::view::SeatView;
-use arena::{Kind, Machine, PassNo, ScxNo, Turn};
+use arena::{Kind, Machine, NodeNo, PassNo, ScxNo, Turn};
 use atomic_table::Seat;
 use dict::{Dict, DictRun, Reply, Request, WordKey, WordValue};
+use resting::unborn_stays_out;
 use std::alloc::Global;
 use std::fmt;
 use std::marker::{Model, PhantomData};
@@ -42,7 +44,7 @@ pub enum Stepped {
 /// A call that has begun, with its pass: `step` makes one atomic step, and `finish`, once a step
 /// has returned `Done`, gives pass and reply.
 #[derive(Drop)]
-pub struct OpenCall<K: WordKey, V: WordValue, B: Upkeep = ByOrder> {
+pub struct OpenCall<K: WordKey, V: WordValue, B: Keeping = ByOrder> {
     number: PassNo,
     /// The first SCX-record of the pass's share.
     first_scx: ScxNo,
@@ -51,6 +53,9 @@ pub struct OpenCall<K: WordKey, V: WordValue, B: Upkeep = ByOrder> {
     /// The pass's seat as it was made, for proofs alone.
     birth: Snapshot<Seat<u8, SeatView>>,
     room: Room,
+    kept: Option<Kept>,
+    /// The next node of the pass's share as it began.
+    from: NodeNo,
     /// Which of the pass's calls it is.
     call: u64,
     run: DictRun<K, V>,
@@ -60,19 +65,20 @@ pub struct OpenCall<K: WordKey, V: WordValue, B: Upkeep = ByOrder> {
     began: Snapshot<Pass<Dict<K, V, B>>>,
 }
 
-impl<K: WordKey, V: WordValue, B: Upkeep> Model for OpenCall<K, V, B> {
+impl<K: WordKey, V: WordValue, B: Keeping> Model for OpenCall<K, V, B> {
     ghost use Rattle.forest.specs.Opened.{OpenView};
 
     ghost Value = { OpenView };
 
-    ghost use Rattle.forest.specs.OpenInvariant.{open_view, IsOpen};
+    ghost use Rattle.forest.specs.OpenInvariant.{open_view, IsOpen, CallKeepsItsOwn};
 
     ghost view = { open_view };
 
-    ghost invariant = { IsOpen K.is_valid K.word_of V.is_valid V.word_of (B.trie B.the) };
+    ghost invariant = { λ o. IsOpen K.is_valid K.word_of V.is_valid V.word_of (B.trie B.the) o
+        × CallKeepsItsOwn B.lasts o };
 }
 
-impl<K: WordKey, V: WordValue, B: Upkeep> Forest<Dict<K, V, B>> {
+impl<K: WordKey, V: WordValue, B: Keeping> Forest<Dict<K, V, B>> {
     /// Begins a call with this pass, which it keeps until it is finished. It has made no step yet.
     pub fn open(
         &self,
@@ -92,6 +98,7 @@ impl<K: WordKey, V: WordValue, B: Upkeep> Forest<Dict<K, V, B>> {
     {
         let began = Snapshot::of(&pass);
         let call = pass.taken();
+        let (from, _) = pass.share.next();
         let Pass {
             number,
             first_scx,
@@ -100,6 +107,7 @@ impl<K: WordKey, V: WordValue, B: Upkeep> Forest<Dict<K, V, B>> {
             blamed,
             birth,
             room,
+            kept,
             shape: _,
         } = pass;
         let mut run = DictRun::new(
@@ -118,6 +126,8 @@ impl<K: WordKey, V: WordValue, B: Upkeep> Forest<Dict<K, V, B>> {
             blamed,
             birth,
             room,
+            kept,
+            from,
             call,
             run,
             turn,
@@ -127,7 +137,7 @@ impl<K: WordKey, V: WordValue, B: Upkeep> Forest<Dict<K, V, B>> {
     }
 }
 
-impl<K: WordKey, V: WordValue, B: Upkeep> OpenCall<K, V, B> {
+impl<K: WordKey, V: WordValue, B: Keeping> OpenCall<K, V, B> {
     /// Makes the next atomic step of the call, which is of this forest.
     pub fn step(&mut self, forest: &Forest<Dict<K, V, B>>) -> Stepped
         requires forest { IsOf forest.now self.old.began }
@@ -181,32 +191,39 @@ impl<K: WordKey, V: WordValue, B: Upkeep> OpenCall<K, V, B> {
             mut blamed,
             birth,
             room,
+            mut kept,
+            from,
             call: _,
             run,
             turn,
             over: _,
             began: _,
         } = self;
+        unborn_stays_out();
         let reply = match turn {
             Turn::Done(reply) => reply,
             Turn::Ask(_) => unreachable!(),
         };
+        let share = run.into_share();
+        let (to, _) = share.next();
         blamed.note_reply(&reply);
+        note_lost::<K, V, B>(&mut kept, &reply, from, to);
         let pass = Pass {
             number,
             first_scx,
-            share: run.into_share(),
+            share,
             seat,
             blamed,
             birth,
             room,
+            kept,
             shape: PhantomData,
         };
         (pass, reply)
     }
 }
 
-impl<K: WordKey, V: WordValue, B: Upkeep> fmt::Debug for OpenCall<K, V, B> {
+impl<K: WordKey, V: WordValue, B: Keeping> fmt::Debug for OpenCall<K, V, B> {
     fn fmt<W: fmt::Write>(&self, f: &mut fmt::Formatter<W>) -> fmt::Result {
         f.debug_struct("OpenCall")
             .field("pass", &self.number.0)

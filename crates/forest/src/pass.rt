@@ -1,9 +1,13 @@
 //! What a thread needs to make calls.
-ghost use Rattle.std.specs.Prelude.{◌≡◌, ◌<◌, [], ◌∷◌};
+ghost use Rattle.std.specs.Prelude.{◌≡◌, ◌<◌, [], ◌∷◌, IfOk};
+ghost use Rattle.arena.specs.Layout.{IsMap};
 ghost use Rattle.arena.specs.Share.{whole_share};
 ghost use Rattle.arena.specs.History.{Opened};
 ghost use Rattle.arena.specs.Machines.{IsRun};
 ghost use Rattle.planting.specs.Plantings.{opening_for};
+ghost use Rattle.forest.specs.LastingOpening.{first_memory};
+ghost use Rattle.forest.specs.LastingTables.{MayTakeTurns, first_share};
+ghost use Rattle.forest.specs.Slotted.{in_turns};
 ghost use Rattle.forest.specs.TableRule.{all_dealt, seated_pass};
 ghost use Rattle.forest.specs.Traces.{planting_of};
 ghost use Rattle.forest.specs.Passes.{PassView, taken_of};
@@ -11,8 +15,12 @@ ghost use Rattle.forest.specs.Shares.{HasFewNames};
 
 use crate::blamed::Blamed;
 use crate::room::Room;
+use crate::rule::Turns;
+use crate::table_shape::{TableOnce, TableShape};
+use crate::upkeep::keeper::Keeper;
+use crate::upkeep::kept::Kept;
 use crate::view::SeatView;
-use arena::{Layout, PassNo, ScxNo, Shape, Share};
+use arena::{Layout, NoMemory, PassNo, ScxNo, Share};
 use atomic_table::Seat;
 use std::alloc::Global;
 use std::fmt;
@@ -23,7 +31,7 @@ use std::snapshot::Snapshot;
 /// its calls have blamed, and lists that its ordered reads fill. A thread has one, and gives it to
 /// each call.
 #[derive(Drop)]
-pub struct Pass<S: Shape> {
+pub struct Pass<S: TableShape> {
     pub(crate) number: PassNo,
     pub(crate) first_scx: ScxNo,
     pub(crate) share: Share,
@@ -33,22 +41,24 @@ pub struct Pass<S: Shape> {
     /// kept.
     pub(crate) birth: Snapshot<Seat<u8, SeatView>>,
     pub(crate) room: Room,
+    /// Where records come back: what it keeps of its own.
+    pub(crate) kept: Option<Kept>,
     pub(crate) shape: PhantomData<S>,
 }
 
-impl<S: Shape> Model for Pass<S> {
+impl<S: TableShape> Model for Pass<S> {
     ghost use Rattle.forest.specs.Passes.{PassView, taken_of};
 
     ghost Value = { PassView };
 
-    ghost use Rattle.forest.specs.PassInvariant.{pass_view, IsPass};
+    ghost use Rattle.forest.specs.PassInvariant.{pass_view, IsPass, KeepsItsOwn};
 
     ghost view = { pass_view };
 
-    ghost invariant = { IsPass S.allows S.mode };
+    ghost invariant = { λ p. IsPass S.allows S.mode p × KeepsItsOwn S.lasts p };
 }
 
-impl<S: Shape> Pass<S> {
+impl<S: TableOnce> Pass<S> {
     /// A pass that has made no step, at a seat of its own. Its lists are empty, and grow with this
     /// allocator.
     pub(crate) fn new(
@@ -85,8 +95,63 @@ impl<S: Shape> Pass<S> {
             blamed: Blamed::new(),
             birth,
             room: Room::new(alloc),
+            kept: None,
             shape: PhantomData,
         }
+    }
+}
+
+impl<S: TableShape> Pass<S> {
+    /// A pass that has made no step, at a seat of its own, in a map's table whose records come
+    /// back: it has its names of the first lap.
+    pub(crate) fn in_turns(
+        alloc: Global,
+        layout: &Layout,
+        turns: Turns,
+        number: PassNo,
+        seat: Seat<u8, SeatView>,
+    ) -> Result<Pass<S>, NoMemory>
+        requires seat { (seat.me.0.passes
+            ≡ seated_pass number.0 (in_turns layout.now turns).lay (planting_of seat.me.0.passes)
+            (first_memory (in_turns layout.now turns) number.0) [] ∷ [])
+            × (seat.me.1 ≡ []) }
+        requires run { IsRun S.allows (in_turns layout.now turns).lay
+            (Opened (opening_for (planting_of seat.me.0.passes))) }
+        requires pass { number.0 < layout.now.passes }
+        requires mode { layout.now.mode ≡ S.mode }
+        requires map { IsMap S.mode }
+        requires few { HasFewNames layout.now }
+        requires may { MayTakeTurns layout.now turns }
+        ensures { IfOk result (λ pass. pass
+            ≡ record {
+              table = seat.table_id;
+              layout = (in_turns layout.now turns).lay;
+              planting = planting_of seat.me.0.passes;
+              number = number.0;
+              share = first_share (in_turns layout.now turns) number.0;
+              known = [];
+              blamed = [];
+            }) }
+    {
+        let birth = Snapshot::of(&seat);
+        let node = turns.first_node(layout, number);
+        let scx = turns.first_scx(layout, number);
+        let keeper = Keeper::new(alloc, layout, &turns, number)?;
+        Ok(Pass {
+            number,
+            first_scx: scx,
+            share: Share::of_run(node, layout.nodes, scx, layout.scx),
+            seat,
+            blamed: Blamed::new(),
+            birth,
+            room: Room::new(alloc),
+            kept: Some(Kept {
+                layout: *layout,
+                turns,
+                keeper,
+            }),
+            shape: PhantomData,
+        })
     }
 
     /// Which of the forest's passes it is.
@@ -113,7 +178,7 @@ impl<S: Shape> Pass<S> {
     }
 }
 
-impl<S: Shape> fmt::Debug for Pass<S> {
+impl<S: TableShape> fmt::Debug for Pass<S> {
     fn fmt<W: fmt::Write>(&self, f: &mut fmt::Formatter<W>) -> fmt::Result {
         let (nodes, scx) = self.left();
         f.debug_struct("Pass")

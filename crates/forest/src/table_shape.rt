@@ -29,7 +29,7 @@ pub trait TableOnce: TableShape {
 }
 
 /// A balance that says, too, whether records come back.
-pub trait Upkeep: FixedBalance {
+pub trait Keeping: FixedBalance {
     /// Whether they do.
     ghost lasts: { Bool };
 
@@ -39,12 +39,12 @@ pub trait Upkeep: FixedBalance {
 }
 
 /// A balance of dictionaries that are filled once.
-pub trait FilledOnce: Upkeep {
+pub trait FilledOnce: Keeping {
     /// No record comes back.
     ghost once: { Self.lasts ≡ false };
 }
 
-impl Upkeep for ByOrder {
+impl Keeping for ByOrder {
     ghost lasts = { false };
 
     #[inline(always)]
@@ -59,7 +59,7 @@ impl FilledOnce for ByOrder {
     ghost once = { refl };
 }
 
-impl Upkeep for ByBits {
+impl Keeping for ByBits {
     ghost lasts = { false };
 
     #[inline(always)]
@@ -94,7 +94,7 @@ impl TableOnce for Cells {
     ghost once = { refl };
 }
 
-impl<K: WordKey, V: WordValue, B: Upkeep> TableShape for Dict<K, V, B> {
+impl<K: WordKey, V: WordValue, B: Keeping> TableShape for Dict<K, V, B> {
     ghost use Rattle.forest.specs.Lasts.{dict_may_last};
 
     ghost lasts = { B.lasts };

@@ -1,21 +1,27 @@
 //! The words of the table, and all that touches them while threads share them: a step, which adds
 //! one row to the run, and the moves by which seats are split and joined, which show nothing.
 //! Nothing else can be written outside this module, so that a call's rows are all that it has done.
-ghost use Rattle.std.specs.Prelude.{◌≡◌, ◌<◌, ◌≤◌, ◌++◌, ℕ, [], ◌∷◌, None, IfOk};
+ghost use Rattle.std.specs.Prelude.{◌≡◌, ◌<◌, ◌≤◌, ◌++◌, ℕ, [], ◌∷◌, None, Some, IfOk};
 ghost use Rattle.std.specs.Slots.{IsFull, slots_len, slots_items};
-ghost use Rattle.atomic_table.specs.Table.{Final, Seen};
+ghost use Rattle.atomic_table.specs.Table.{Allows, Final, Seen};
 ghost use Rattle.arena.specs.History.{Opened};
 ghost use Rattle.arena.specs.Layout.{IsMap, table_size};
 ghost use Rattle.arena.specs.Machines.{IsRun};
+ghost use Rattle.ordered_map.specs.Runs.{IsMapRun};
 ghost use Rattle.planting.specs.Plantings.{opening_for};
 ghost use Rattle.forest.specs.declared.view.SeatedPass.{SeatedPass};
+ghost use Rattle.forest.specs.LastingOpening.{first_view};
 ghost use Rattle.forest.specs.LastingRule.{MayStepOn};
+ghost use Rattle.forest.specs.LastingTables.{HasWordsFor, MayTakeTurns};
 ghost use Rattle.forest.specs.Ruled.{IsRuled, MayLast};
-ghost use Rattle.forest.specs.Slotted.{plot_at};
+ghost use Rattle.forest.specs.Shares.{HasFewNames};
+ghost use Rattle.forest.specs.Slotted.{in_turns, names_of_table, plot_at};
 ghost use Rattle.forest.specs.TablePlans.{IsPlaceOf, IsTableOnce};
 ghost use Rattle.forest.specs.TableRule.{MayStep, Made, Looked, look, new_passes, rest_of, first_of};
 
-use crate::rule::{Both, CallStep, Deal, Lawful, Looks, Makes, Says, Site};
+use crate::lasting_laws::names_last;
+use crate::lasting_size::{size_in_turns, with_zeros};
+use crate::rule::{Both, CallStep, Deal, Lawful, Learns, Looks, Makes, Says, Site, Teaches, Turns};
 use crate::view::SeatView;
 use arena::{Access, Layout, NoMemory, NodeNo, NodeWord, SettledPart, Shape, Word};
 use atomic_table::{Closed, Seat, Table};
@@ -54,6 +60,36 @@ impl<S: Shape> Words<S> {
         Ok((Words { table }, seat))
     }
 
+    /// The words of a table whose records come back, as they are at the start, and zeros behind
+    /// them, with a seat that has all passes.
+    pub(crate) fn open_in_turns(
+        alloc: Global,
+        site: &Site,
+        turns: Turns,
+    ) -> Result<(Words<S>, Seat<u8, SeatView>), NoMemory>
+        requires turns { site.now.turns ≡ Some turns }
+        requires mode { site.now.planting.mode ≡ site.now.layout.mode }
+        requires few { HasFewNames site.now.layout }
+        requires may { MayTakeTurns site.now.layout turns }
+        requires run { IsRun S.allows (names_of_table site.now) (Opened (opening_for site.now.planting)) }
+        requires map { IsMapRun (names_of_table site.now) (Opened (opening_for site.now.planting)) }
+        ensures key { IfOk result (λ w. w.0.table.shared.key ≡ site.now) }
+        ensures table { IfOk result
+            (λ w. (w.0.table.shared.table_id.slots ≡ 0)
+            × (w.1.table_id ≡ w.0.table.shared.table_id)) }
+        ensures room { IfOk result
+            (λ w. HasWordsFor site.now.layout turns w.0.table.shared.table_id.words) }
+        ensures seat { IfOk result
+            (λ w. (w.1.me.0 ≡ first_view (in_turns site.now.layout turns) site.now.planting)
+            × (w.1.me.1 ≡ [])) }
+    {
+        let opening = site.planting.words(alloc, &site.layout)?;
+        let words = with_zeros(alloc, opening.words(), size_in_turns(&site.layout, &turns))?;
+        names_last::<S>();
+        let (table, seat) = Table::of_words(alloc, &words, site)?;
+        Ok((Words { table }, seat))
+    }
+
     /// Makes the step of a call that is said, which is at this place, and answers what a machine
     /// gets of it. In a map the step meets what a table asks that lasts.
     #[inline(always)]
@@ -86,6 +122,48 @@ impl<S: Shape> Words<S> {
                 shared.compare_exchange::<Makes<S, J>>(seat, at, expected, new)
             }
         }
+    }
+
+    /// Loads what is at a place, in a step that is of no call and that the rule of the table allows,
+    /// and answers it. What the step is about is there for the caller, who picks by it what is
+    /// learnt.
+    #[inline(always)]
+    pub(crate) fn load_with<J: Learns, A: Copy>(
+        &self,
+        seat: &mut Seat<u8, SeatView>,
+        at: usize,
+        about: A,
+    ) -> u64
+        requires table { seat.old.table_id ≡ self.now.table.shared.table_id }
+        requires inside { at < self.now.table.shared.table_id.words }
+        requires may { Allows (IsRuled S.allows self.now.table.shared.key)
+            self.now.table.shared.table_id.slots seat.old.id seat.old.me at (λ n. n)
+            (λ n w. J.learns seat.old.me.0 n w.0 × (w.1 ≡ seat.old.me.1)) }
+        ensures table { IsSameSeat seat.old seat.new }
+        ensures learnt { J.learns seat.old.me.0 result seat.new.me.0 }
+    {
+        self.table.shared.load::<Teaches<J>>(seat, at)
+    }
+
+    /// Stores a number at a place, in a step that is of no call and that the rule of the table
+    /// allows. What the step is about is there for the caller.
+    #[inline(always)]
+    pub(crate) fn store_with<J: Learns, A: Copy>(
+        &self,
+        seat: &mut Seat<u8, SeatView>,
+        at: usize,
+        new: u64,
+        about: A,
+    )
+        requires table { seat.old.table_id ≡ self.now.table.shared.table_id }
+        requires inside { at < self.now.table.shared.table_id.words }
+        requires may { Allows (IsRuled S.allows self.now.table.shared.key)
+            self.now.table.shared.table_id.slots seat.old.id seat.old.me at (λ n. new)
+            (λ n w. J.learns seat.old.me.0 new w.0 × (w.1 ≡ seat.old.me.1)) }
+        ensures table { IsSameSeat seat.old seat.new }
+        ensures learnt { J.learns seat.old.me.0 new seat.new.me.0 }
+    {
+        self.table.shared.store::<Teaches<J>>(seat, at, new);
     }
 
     /// A look at the table by the only pass of a seat, which is no step of a call.

@@ -35,6 +35,14 @@
 //!     map.get(&mut pass, &9)                    // Some(90)
 //!     pass.left()                               // (300, 100): the pairs take nothing of a share
 //!
+//! A dictionary of either shape that lasts: what its passes have used up comes back as they rest.
+//! A pass that makes no calls for a while goes away first, since all others wait for it:
+//!
+//!     let (map, passes) = Forest::<Dict<u64, u64, Lasts<ByOrder>>>::lasting(alloc, limits)?;
+//!     map.rest(&mut pass)                       // Some(PassNo(1)): it waits for pass 1
+//!     let away = map.away(pass);                // and for this one nobody waits
+//!     let pass = map.back(away);
+//!
 //! A call one atomic step at a time; here of the empty map, whose root has one leaf on its left:
 //!
 //!     let mut call = map.open(alloc, pass, Request::Get { key: 5 });
@@ -59,8 +67,8 @@ pub use arena::{
 };
 pub use dict::{ByBits, ByOrder, Dict, Name8, Reply, Request, Trie, WordKey, WordValue};
 pub use forest::{
-    Closed, FilledOnce, Forest, NewFault, OpenCall, OrderFault, PairsFault, Pass, Stepped,
-    UpdateFault,
+    Away, Closed, FilledOnce, Forest, Lasts, NewFault, OpenCall, OrderFault, PairsFault, Pass,
+    Remains, Stepped, UpdateFault,
 };
 pub use laws::version_laws_hold;
 pub use ordered_map::{laws_hold, map_laws_hold, trie_laws_hold};

@@ -7,5 +7,7 @@ mod Unborn
 mod Never
 mod StaysUnborn
 mod Unnamed
+mod Outside
+mod Lookups
 mod Periods
 pub mod Lemmas

@@ -1,16 +1,19 @@
 -- What is out of reach stays so; by periods a note goes on.
-use Rattle.std.proofs.Common.{◌≡◌, ◌<◌, ◌⊎◌, ℕ, inl, inr}
+use Rattle.std.proofs.Common.{◌≡◌, ◌<◌, ◌⊎◌, ℕ, inl, inr, ⊎_elim}
 use Rattle.histories.specs.Common.{Layout, Row, History, ◌⊳◌, Extends, Lawful}
 use Rattle.arena.proofs.Lemmas.{ends_self, ends_trans}
 use Rattle.histories.proofs.Lemmas.{lawful_row, lawful_since}
 use Rattle.ordered_map.specs.Runs.{IsMapRun}
-use Rattle.resting.specs.Dead.{IsDead, IsMarkedRecord}
-use Rattle.resting.specs.Periods.{IsPeriod, Note, marked_or_dead, dead_by, out_of_reach, IsRightNote}
+use Rattle.ordered_map.proofs.MapLemmas.{run_since}
+use Rattle.resting.specs.Dead.{HasLeftUnmarked, IsDead, IsMarkedNode, IsMarkedRecord, IsOut, IsUnborn}
+use Rattle.resting.specs.Periods.{IsPeriod, WasDead, Note, marked_or_dead, dead_by, out_of_reach, IsRightNote}
 use Rattle.resting.specs.Reach.{IsOutOfReach}
 use Rattle.resting.specs.Records.{Record, record_of, the_node, the_scx}
 use Rattle.resting.specs.Rests.{HaveRestedAt, HaveMovedOn, IsRowSince, AreSince}
 use Rattle.resting.proofs.Resting.{rested_before, row_keeps}
+use Rattle.resting.proofs.Outside.{out_sorts}
 use Rattle.resting.proofs.Removed.{removed_after, removed_out}
+use Rattle.resting.proofs.StaysUnborn.{unborn_out}
 use Rattle.resting.proofs.Touched.{left_out, let_go_out}
 use Rattle.resting.proofs.Unborn.{aborted_out}
 
@@ -51,23 +54,37 @@ marked_dead lay p (the_scx s) t snapshot end l after period d = absurd d
 
 module _ (lay : Layout) (p : ℕ) (x : Record) (h : History) (last : ℕ → History) where
   pub note_since : (m : History) (n : Note) → Extends m h → IsRightNote lay p x h last n → IsRightNote lay p x m last n
-  note_since m (marked_or_dead t) e y = (ends_trans m h t e y.0, y.1)
-  note_since m (dead_by end) e y = (ends_trans m h end e y.0, y.1)
+  note_since m (marked_or_dead t) e y = (ends_trans m h t e y.0, ⊎_elim inl (λ z. inr (⊎_elim inl (λ out. inr (out_since lay h m last x e out)) z)) y.1)
+  note_since m (dead_by end) e y = (ends_trans m h end e y.0, ⊎_elim inl (λ out. inr (out_since lay h m last x e out)) y.1)
   note_since m out_of_reach e y = out_since lay h m last x e y
 
   pub note_anew : (next : ℕ → History) (n : Note) → HaveMovedOn lay h last next → IsRightNote lay p x h last n → IsRightNote lay p x h next n
-  note_anew next (marked_or_dead t) a y = y
-  note_anew next (dead_by end) a y = y
+  note_anew next (marked_or_dead t) a y = (y.0, ⊎_elim inl (λ z. inr (⊎_elim inl (λ out. inr (out_anew lay h last next x a out)) z)) y.1)
+  note_anew next (dead_by end) a y = (y.0, ⊎_elim inl (λ out. inr (out_anew lay h last next x a out)) y.1)
   note_anew next out_of_reach a y = out_anew lay h last next x a y
 
   -- marked or dead before the snapshot: one period
   pub note_once : (t snapshot : History) → Lawful lay h → Extends snapshot t → IsPeriod lay snapshot h → IsRightNote lay p x h last (marked_or_dead t) → IsRightNote lay p x h last (dead_by h)
-  note_once t snapshot l after period y = go y.1
+  note_once t snapshot l after period y = (ends_self h, go y.1)
     where
-      go : IsMarkedRecord x t ⊎ IsDead lay p x t → IsRightNote lay p x h last (dead_by h)
-      go (inl d) = (ends_self h, record { moment = h; within = ends_self h; dead = marked_dead lay p x t snapshot h l after period d })
-      go (inr d) = (ends_self h, record { moment = t; within = ends_trans h snapshot t period.ordered after; dead = d })
+      go : IsMarkedRecord x t ⊎ (IsDead lay p x t ⊎ IsOutOfReach lay h last x) → WasDead lay p x h ⊎ IsOutOfReach lay h last x
+      go (inl d) = inl record { moment = h; within = ends_self h; dead = marked_dead lay p x t snapshot h l after period d }
+      go (inr (inl d)) = inl record { moment = t; within = ends_trans h snapshot t period.ordered after; dead = d }
+      go (inr (inr out)) = inr out
 
   -- the first was over before the second snapshot: two
   pub note_free : (end snapshot : History) → IsMapRun lay h → p < lay.passes → HaveRestedAt lay h last → AreSince lay last snapshot → Extends snapshot end → IsRightNote lay p x h last (dead_by end) → IsRightNote lay p x h last out_of_reach
-  note_free end snapshot run is_pass rested since after y = dead_out lay h last p y.1.moment x run is_pass rested (λ o i. ends_trans (last o) snapshot y.1.moment (since o i) (ends_trans snapshot end y.1.moment after y.1.within)) y.1.dead
+  note_free end snapshot run is_pass rested since after y = ⊎_elim over (λ out. out) y.1
+    where
+      over : WasDead lay p x end → IsOutOfReach lay h last x
+      over z = dead_out lay h last p z.moment x run is_pass rested (λ o i. ends_trans (last o) snapshot z.moment (since o i) (ends_trans snapshot end z.moment after z.within)) z.dead
+
+-- What is a pass's own and out since its rest it may note as marked or dead: so it is, or out of
+-- reach already.
+pub note_out : (lay : Layout) (h : History) (last : ℕ → History) (p : ℕ) (t : History) (n : ℕ) → IsMapRun lay h → p < lay.passes → Extends h t → IsOut lay p (last p) t n → IsRightNote lay p (the_node n) h last (marked_or_dead t)
+note_out lay h last p t n run is_pass within x = (within, go (out_sorts lay p (last p) t n x (run_since lay h t run within)))
+  where
+    go : IsMarkedNode t n ⊎ (HasLeftUnmarked t n ⊎ IsUnborn lay p (last p) n) → IsMarkedNode t n ⊎ (IsDead lay p (the_node n) t ⊎ IsOutOfReach lay h last (the_node n))
+    go (inl m) = inl m
+    go (inr (inl d)) = inr (inl (inr (inl d)))
+    go (inr (inr u)) = inr (inr (unborn_out lay h last p n is_pass u))

@@ -31,6 +31,10 @@ rested_before lay h k o q l e x y here later = record { within = ends_trans k h 
         go (inl (inr a)) = wider lay o l q g r later (y.rows r g within a own)
         go (inr a) = x.rows r g (ends_trans h l (r ⊳ g) here a) since own
 
+-- nor does it depend on what came later
+pub rested_within : (lay : Layout) (h m : History) (o : ℕ) (rest : History) → Extends h m → Extends m rest → HasRestedAt lay h o rest → HasRestedAt lay m o rest
+rested_within lay h m o rest e later x = record { within = later; over = x.over; rows = λ r g within since own. x.rows r g (ends_trans h m (r ⊳ g) e within) since own }
+
 -- what is asked of the newest row
 abbrev KeepsRow : Layout → ℕ → History → History → Type 0
 KeepsRow lay o rest (Opened p) = Unit {0}

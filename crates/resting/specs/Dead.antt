@@ -3,6 +3,7 @@ use Rattle.std.specs.Prelude.{◌≡◌, ◌≢◌, ◌⊎◌, ℕ, true, false}
 use Rattle.histories.specs.Common.{Layout, Side, History, Extends, value, state, info, marked, child, count, member, new, log, is_final, IsOwnNode, IsOwnScx, IsTakenNode, IsTakenScx, IsNamedScx}
 use Rattle.ordered_map.specs.Paths.{WasInTree}
 use Rattle.ordered_map.specs.TreeWords.{is_leaf}
+use Rattle.touching.specs.Kinds.{IsInTree}
 use Rattle.touching.specs.Left.{HasLeft, IsNamedByLeft}
 use Rattle.touching.specs.Rests.{IsLetGo}
 use Rattle.resting.specs.Records.{Record, the_node, the_scx}
@@ -56,6 +57,14 @@ pub record IsUnborn (lay : Layout) (o : ℕ) (t : History) (n : ℕ) : Type 0 wh
   pub own : IsOwnNode lay o n
   pub taken : IsTakenNode t n
   pub never : ¬ WasInTree t n
+
+-- The node is the pass's own, which had taken it as it rested; and at the moment t since then it is
+-- not in the tree or the trie. Whether it ever was there is left open.
+pub record IsOut (lay : Layout) (o : ℕ) (rest t : History) (n : ℕ) : Type 0 where
+  pub own : IsOwnNode lay o n
+  pub taken : IsTakenNode rest n
+  pub since : Extends t rest
+  pub out : ¬ IsInTree t n
 
 -- the SCX-record is the pass's own, which has taken it; it is finished, and no info has named it
 pub record IsUnnamedScx (lay : Layout) (o : ℕ) (t : History) (s : ℕ) : Type 0 where

@@ -3,3 +3,4 @@ pub mod Rests
 pub mod Reach
 pub mod Dead
 pub mod Periods
+pub mod Lookups

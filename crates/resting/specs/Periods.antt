@@ -35,8 +35,9 @@ pub record WasDead (lay : Layout) (p : ℕ) (x : Record) (m : History) : Type 0 
   pub dead : IsDead lay p x moment
 
 -- The note of the pass p is right after h: the record was marked or dead at the moment t of h; it
--- was dead at the moment `end` of h, or before; it is out of reach, by the rests of `last`.
+-- was dead at the moment `end` of h, or before; it is out of reach, by the rests of `last`. What is
+-- out of reach already may be noted so as well as in either other way.
 abbrev pub IsRightNote : Layout → ℕ → Record → History → (ℕ → History) → Note → Type 0
-IsRightNote lay p x h last (marked_or_dead t) = Extends h t × (IsMarkedRecord x t ⊎ IsDead lay p x t)
-IsRightNote lay p x h last (dead_by end) = Extends h end × WasDead lay p x end
+IsRightNote lay p x h last (marked_or_dead t) = Extends h t × (IsMarkedRecord x t ⊎ (IsDead lay p x t ⊎ IsOutOfReach lay h last x))
+IsRightNote lay p x h last (dead_by end) = Extends h end × (WasDead lay p x end ⊎ IsOutOfReach lay h last x)
 IsRightNote lay p x h last out_of_reach = IsOutOfReach lay h last x

@@ -3,4 +3,6 @@
 
 mod laws;
 
-pub use laws::{dead_comes_back, notes_hold, reach_holds, rests_hold, unborn_stays_out};
+pub use laws::{
+    dead_comes_back, lookups_tell, notes_hold, reach_holds, rests_hold, unborn_stays_out,
+};

@@ -23,7 +23,7 @@ use crate::balance::in_trie;
 use crate::room::Room;
 use crate::straight::hand::Hand;
 use crate::straight::{ordered_read, update};
-use crate::table_shape::Upkeep;
+use crate::table_shape::Keeping;
 use crate::view::SeatView;
 use arena::{Share, Side};
 use atomic_table::Seat;
@@ -40,7 +40,7 @@ const DEEP: usize = 32;
 
 /// Makes an edit with `tries` tries and this share, and returns what is left of that.
 #[inline(always)]
-pub(crate) fn make<K: WordKey, V: WordValue, B: Upkeep, G: EditGoal, R: EditRule>(
+pub(crate) fn make<K: WordKey, V: WordValue, B: Keeping, G: EditGoal, R: EditRule>(
     hand: Hand<Dict<K, V, B>>,
     seat: &mut Seat<u8, SeatView>,
     share: Share,
@@ -123,7 +123,7 @@ fn told_range<K: WordKey, V: WordValue>(
 /// Looks with so many tries for the pair beside a key on this side, and takes nothing of a share. It
 /// fills a list of the room.
 #[inline(always)]
-fn neighbour<K: WordKey, V: WordValue, B: Upkeep>(
+fn neighbour<K: WordKey, V: WordValue, B: Keeping>(
     hand: Hand<Dict<K, V, B>>,
     seat: &mut Seat<u8, SeatView>,
     room: &mut Room,
@@ -160,7 +160,7 @@ fn neighbour<K: WordKey, V: WordValue, B: Upkeep>(
 /// Makes an ordered read with `tries` tries, which takes nothing of a share. It fills the lists of
 /// the room; what a range replies grows with this allocator.
 #[inline(always)]
-pub(crate) fn read<K: WordKey, V: WordValue, B: Upkeep>(
+pub(crate) fn read<K: WordKey, V: WordValue, B: Keeping>(
     hand: Hand<Dict<K, V, B>>,
     seat: &mut Seat<u8, SeatView>,
     room: &mut Room,

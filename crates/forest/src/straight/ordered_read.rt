@@ -22,7 +22,7 @@ use crate::straight::llx::{load, look};
 use crate::straight::step::step;
 use crate::straight::vlx::validate;
 use crate::straight::walk;
-use crate::table_shape::{TableShape, Upkeep};
+use crate::table_shape::{Keeping, TableShape};
 use crate::view::SeatView;
 use arena::{
     Access, Head, Kind, Machine, NodeNo, NodeWord, ScxNo, ScxWord, SettledPart, Shape, Slot, Step,
@@ -513,7 +513,7 @@ fn from_root<S: TableShape, M: CallMachine<S>, R: Read + Drop>(
 
 /// Makes an ordered read: its first try inline. A function of its own, as that of an update.
 #[inline(never)]
-pub(crate) fn call<S: TableShape, M: CallMachine<S>, R: Read + Drop, B: Upkeep>(
+pub(crate) fn call<S: TableShape, M: CallMachine<S>, R: Read + Drop, B: Keeping>(
     hand: Hand<S>,
     seat: &mut Seat<u8, SeatView>,
     run: &mut ReadRun<R>,

@@ -10,7 +10,7 @@ use Rattle.forest.proofs.close.seat_of.Goals as goal
 
 pub look_alone-requires-clause-one : goal.look_alone-requires-clause-one
 look_alone-requires-clause-one g c = let p = c.pass.inside in let lay : (layout_in p) ≡ c.args.layout.now = ap (λ (v : PassView). v.layout) c.pass.view_is ∙ c.requires.pass.1 ∙ names_are c.args.words.now.table.shared.key c.args.layout.now c.requires.table.layout c.requires.table.turns in
-    (seated_pass p.number.0 (layout_in p) (planting_of p.seat.me.0.passes) (memory_of p.seat.me.0.passes) (known_of p.seat.me.0.passes), c.pass.invariant.seat.alone, lay, subst (λ (l : Layout). p.number.0 < l.passes) lay c.pass.invariant.is_pass)
+    (seated_pass p.number.0 (layout_in p) (planting_of p.seat.me.0.passes) (memory_of p.seat.me.0.passes) (known_of p.seat.me.0.passes), c.pass.invariant.0.seat.alone, lay, subst (λ (l : Layout). p.number.0 < l.passes) lay c.pass.invariant.0.is_pass)
 
 pub returns-clause-pass : goal.returns-clause-pass
-returns-clause-pass g c = rw (← c.pass.view_is) (looked_from c.pass.inside c.pass.invariant c.look_alone.new.seat c.look_alone.ensures.looked.0 c.look_alone.ensures.table.1 c.look_alone.ensures.looked.1)
+returns-clause-pass g c = rw (← c.pass.view_is) (looked_from c.pass.inside c.pass.invariant.0 c.look_alone.new.seat c.look_alone.ensures.looked.0 c.look_alone.ensures.table.1 c.look_alone.ensures.looked.1)

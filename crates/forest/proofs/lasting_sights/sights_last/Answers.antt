@@ -11,4 +11,4 @@ pub returns-clause-loads : goal.returns-clause-loads
 returns-clause-loads g c = λ t planting slots id me p name word one is_pass. lasting_loads g.S.Shape.allows t planting (λ h o rest n. c.unborn_stays_out.ensures.stays t.lay h o rest n) slots id me p one is_pass name word
 
 pub returns-clause-left : goal.returns-clause-left
-returns-clause-left g c = λ t planting slots id me p at node one is_pass. lasting_left g.S.Shape.allows t planting (λ h o rest n. c.unborn_stays_out.ensures.stays t.lay h o rest n) slots id me p one is_pass at node
+returns-clause-left g c = λ t planting slots id me p at node m one is_pass. lasting_left g.S.Shape.allows t planting (λ h o rest n. c.unborn_stays_out.ensures.stays t.lay h o rest n) slots id me p one is_pass at node m

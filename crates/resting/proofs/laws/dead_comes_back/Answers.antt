@@ -1,4 +1,5 @@
 use Rattle.resting.proofs.Looks.{looked}
+use Rattle.resting.proofs.Outside.{out_unmarked}
 use Rattle.resting.proofs.Periods.{dead_out}
 use Rattle.resting.proofs.Removed.{removed_after, removed_final, removed_seen}
 use Rattle.resting.proofs.StaysUnborn.{unborn_out}
@@ -29,3 +30,6 @@ returns-clause-unnamed g = unnamed_out
 
 pub returns-clause-look : goal.returns-clause-look
 returns-clause-look g = looked
+
+pub returns-clause-out : goal.returns-clause-out
+returns-clause-out g = λ lay h last p rest t n run is_pass all since rested within x mark. out_unmarked lay p rest t n x h run is_pass within rested last all since mark

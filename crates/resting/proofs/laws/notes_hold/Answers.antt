@@ -1,4 +1,4 @@
-use Rattle.resting.proofs.Periods.{note_anew, note_free, note_once, note_since, period_over}
+use Rattle.resting.proofs.Periods.{note_anew, note_free, note_once, note_out, note_since, period_over}
 use Rattle.resting.proofs.laws.notes_hold.Goals as goal
 
 pub returns-clause-period : goal.returns-clause-period
@@ -15,3 +15,6 @@ returns-clause-first g = note_once
 
 pub returns-clause-second : goal.returns-clause-second
 returns-clause-second g = note_free
+
+pub returns-clause-out : goal.returns-clause-out
+returns-clause-out g = note_out

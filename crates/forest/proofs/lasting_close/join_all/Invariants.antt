@@ -1,0 +1,18 @@
+use Rattle.std.proofs.Common.{◌≡◌, ◌++◌, List, vec_len}
+use Rattle.std.specs.List.{All}
+use Rattle.forest.specs.Passes.{PassView, IsOn}
+use Rattle.forest.specs.Remains.{AreSeated}
+use Rattle.forest.specs.Slotted.{names_of_table}
+use Rattle.forest.proofs.lasting_close.join_all.Given as goal
+
+abbrev pub invariant-loop-pass : goal.invariant-loop-pass
+invariant-loop-pass g l = record {
+  gone : List PassView;
+  were : l.fn.passes.items ≡ l.passes.items ++ gone;
+  are_in : AreSeated g.S.Shape.allows gone l.all.me.0.passes;
+  left : All (IsOn l.words.table.shared.table_id (names_of_table l.words.table.shared.key)) l.passes.items;
+  table : l.all.table_id ≡ l.words.table.shared.table_id;
+}
+
+abbrev pub decreases-loop-pass : goal.decreases-loop-pass
+decreases-loop-pass g l = vec_len l.passes

@@ -1,0 +1,42 @@
+//! What a pass of a dictionary whose records come back does between two calls.
+ghost use Rattle.std.specs.Prelude.{◌≢◌, ◌<◌, IfSome};
+ghost use Rattle.dict.specs.Typed.{TypedAllows};
+ghost use Rattle.dict.specs.Words.{IsWordOf};
+ghost use Rattle.forest.specs.Passes.{IsOf};
+ghost use Rattle.forest.specs.Rests.{HasOnlyRested};
+
+use crate::forest::Forest;
+use crate::lasting::Lasts;
+use crate::pass::Pass;
+use arena::PassNo;
+use dict::{Dict, WordKey, WordValue};
+use template::FixedBalance;
+
+impl<K: WordKey, V: WordValue, B: FixedBalance> Forest<Dict<K, V, Lasts<B>>> {
+    /// The pass rests, between two calls: once all others have rested or are away since it began to
+    /// wait for them, what they could still come to is out of reach, and what it has found dead by
+    /// then comes back. It answers the first that it waits for. It makes up to 2 steps for each
+    /// pass, and where all have rested up to 20 for each of its nodes and SCX-records, whatever
+    /// others do; it takes no memory.
+    pub fn rest(&self, pass: &mut Pass<Dict<K, V, Lasts<B>>>) -> Option<PassNo>
+        requires pass { IsOf self.now pass.old }
+        ensures pass { IsOf self.now pass.new }
+        ensures rested { HasOnlyRested (TypedAllows (IsWordOf K.is_valid K.word_of) (IsWordOf V.is_valid V.word_of))
+            pass.old pass.new }
+        ensures waits { IfSome result (λ other. (other.0 < pass.new.layout.passes) × (other.0 ≢ pass.new.number)) }
+    {
+        let Some(mut kept) = pass.kept.take() else {
+            return None;
+        };
+        let waits_for = kept.rest(
+            &self.words,
+            self.turns,
+            &self.plan.layout,
+            &mut pass.seat,
+            pass.number,
+            &mut pass.share,
+        );
+        pass.kept = Some(kept);
+        waits_for
+    }
+}
