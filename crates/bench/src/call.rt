@@ -1,6 +1,6 @@
 //! The rounds of a thread on a dictionary.
 ghost use Rattle.std.specs.Prelude.{◌≡◌};
-ghost use Rattle.forest.specs.Passes.{IsOf};
+ghost use Rattle.tables.specs.Passes.{IsOf};
 ghost use Rattle.bench.specs.Tally.{total};
 
 use crate::keys::{Draw, Keys};

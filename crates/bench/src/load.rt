@@ -1,7 +1,7 @@
 //! One repetition of a load: a dictionary is made that begins with pairs.
 ghost use Rattle.std.specs.Prelude.{IfOk};
 ghost use Rattle.std.specs.List.{All};
-ghost use Rattle.forest.specs.Passes.{IsOf};
+ghost use Rattle.tables.specs.Passes.{IsOf};
 
 use crate::call::{Numbers, rounds};
 use crate::dictionary::Opened;

@@ -1,7 +1,7 @@
 //! One repetition: the threads of one forest.
 ghost use Rattle.std.specs.Prelude.{IfOk};
 ghost use Rattle.std.specs.List.{All};
-ghost use Rattle.forest.specs.Passes.{IsOf};
+ghost use Rattle.tables.specs.Passes.{IsOf};
 
 use crate::fault::Fault;
 use crate::tally::Tally;

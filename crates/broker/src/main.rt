@@ -1,5 +1,5 @@
-//! A broker's table of counters: four threads count messages by topic, each message once. Every
-//! evening the table is closed and renewed, so that its passes have whole shares the next day.
+//! A broker's table of counters: four threads count messages by topic, each message once. It goes on
+//! without end: what its passes have used up comes back as they rest.
 #![tactic(auto)]
 
 ghost use Rattle.std.specs.Prelude.{IfOk};
@@ -7,33 +7,29 @@ ghost use Rattle.std.specs.List.{All};
 ghost use Rattle.regnubas.specs.Passes.{IsOf};
 
 use anyhow::{Result, bail};
-use regnubas::{Closed, Forest, Limits, Name8, Pass, Trie, UpdateFault};
+use regnubas::{ByBits, Dict, Forest, Lasts, Limits, Name8, Pass, UpdateFault};
 use std::alloc::{AllocError, Global};
-use std::thread::{Threads, map_vec};
+use std::thread::{Threads, map_vec, yield_now};
 
 /// From topics to how many messages there were.
-type Table = Trie<Name8, u32>;
+type Table = Dict<Name8, u32, Lasts<ByBits>>;
 
-/// A pass for each thread. Each message of a day takes a node and an SCX-record, which are never
-/// given back, and so does a try that is lost.
+/// A pass for each thread and one for the end, with what it may have in use at a time.
 const LIMITS: Limits = Limits {
-    passes: 4,
-    nodes: 30_000,
-    scx: 30_000,
-    tries: 100,
+    passes: 5,
+    nodes: 64,
+    scx: 64,
+    tries: 1,
 };
 
 /// The topics.
 const TOPICS: [&str; 3] = ["news", "sports", "weather"];
 
-/// How many messages each thread counts in a day.
-const MESSAGES: usize = 200;
+/// How many messages each thread counts.
+const MESSAGES: usize = 30_000;
 
-/// After so many days the counters are told.
-const DAYS: usize = 3;
-
-/// A table and its passes.
-type Opened = (Forest<Table>, Vec<Pass<Table>>);
+/// After how many messages a pass rests.
+const OFTEN: usize = 8;
 
 /// Opens a topic, with no message, while no other thread works.
 fn open(table: &Forest<Table>, pass: &mut Pass<Table>, topic: &str) -> Result<()>
@@ -57,100 +53,73 @@ fn open_all(table: &Forest<Table>, mut pass: Pass<Table>) -> Result<Pass<Table>>
     Ok(pass)
 }
 
-/// The last pass opens all topics, before the threads start.
-fn filled(table: &Forest<Table>, mut passes: Vec<Pass<Table>>) -> Result<Vec<Pass<Table>>>
-    requires { All (IsOf table.now) passes.items }
-    ensures { IfOk result (λ ps. All (IsOf table.now) ps.items) }
+/// The pass rests, and lets another thread go on if it waits for one.
+fn rest(table: &Forest<Table>, pass: &mut Pass<Table>)
+    requires { IsOf table.now pass.old }
+    ensures { IsOf table.now pass.new }
 {
-    let Some(own) = passes.pop() else {
-        return Ok(passes);
-    };
-    passes.push(open_all(table, own)?)?;
-    Ok(passes)
+    if table.rest(pass).is_some() {
+        yield_now();
+    }
 }
 
 /// Counts a message: one more than there were, if no other thread has counted meanwhile, and else
-/// again from what that has left. Answers whether the topic is open and the share has had room.
+/// again from what that has left. If the share is used up the pass rests first. Answers whether the
+/// message is counted.
 fn count(table: &Forest<Table>, pass: &mut Pass<Table>, topic: Name8) -> bool
     requires { IsOf table.now pass.old }
     ensures { IsOf table.now pass.new }
 {
     let mut seen = 0;
-    for _ask in 0..100_000 {
+    for _ask in 0..10_000_000 {
         match table.replace_if(pass, topic, &seen, seen.wrapping_add(1)) {
             Ok(Some(told)) if told == seen => return true,
             Ok(Some(told)) => seen = told,
             Ok(None) => return false,
             Err(UpdateFault::Contended { .. }) => {}
-            Err(UpdateFault::Full(_)) => return false,
+            Err(UpdateFault::Full(_)) => rest(table, pass),
         }
     }
     false
 }
 
-/// What a thread does with its pass.
-fn work(table: &Forest<Table>, mut pass: Pass<Table>) -> Pass<Table>
+/// What a thread does with its pass, which then leaves for ever.
+fn work(table: &Forest<Table>, mut pass: Pass<Table>)
     requires { IsOf table.now pass }
-    ensures { IsOf table.now result }
 {
     for message in 0..MESSAGES {
         if let Some(topic) = Name8::new(TOPICS[message % 3]) {
             count(table, &mut pass, topic);
         }
+        if message % OFTEN == 0 {
+            rest(table, &mut pass);
+        }
     }
-    pass
+    drop(table.away(pass));
 }
 
-/// All threads work, and return their passes.
+/// All threads work.
 fn work_all<R: Threads + Sync>(
     rt: &R,
     table: &Forest<Table>,
     passes: Vec<Pass<Table>>,
-) -> Result<Vec<Pass<Table>>, AllocError>
+) -> Result<(), AllocError>
     requires { All (IsOf table.now) passes.items }
-    ensures { IfOk result (λ ps. All (IsOf table.now) ps.items) }
 {
-    map_vec(rt, passes, &|pass| work(table, pass))
+    map_vec(rt, passes, &|pass| work(table, pass))?;
+    Ok(())
 }
 
-/// A day's work, at the end of which the table is closed.
-fn day<R: Threads + Sync>(rt: &R, opened: Opened) -> Result<Closed<Table>>
-    requires { All (IsOf opened.0) opened.1.items }
-{
-    let (table, passes) = opened;
-    let passes = work_all(rt, &table, passes)?;
-    if table.all_back(&passes) {
-        Ok(table.close(passes))
-    } else {
-        bail!("a pass is missing")
-    }
-}
-
-/// A table in which all topics are open.
-fn first(alloc: Global) -> Result<Opened>
-    ensures { IfOk result (λ r. All (IsOf r.0) r.1.items) }
-{
-    let (table, passes) = Forest::<Table>::new(alloc, LIMITS)?;
-    let passes = filled(&table, passes)?;
-    Ok((table, passes))
-}
-
-/// A table that begins with what the one before has left.
-fn next(alloc: Global, before: &Closed<Table>) -> Result<Opened>
-    ensures { IfOk result (λ r. All (IsOf r.0) r.1.items) }
-{
-    let (table, passes) = before.renewed(alloc, LIMITS)?;
-    Ok((table, passes))
-}
-
-/// The counters in the end, by topic. Each day but the first begins with what the one before has
-/// left.
+/// The counters in the end, by topic. The pass that opens the topics is away while the others work.
 fn counters<R: Threads + Sync>(rt: &R, alloc: Global) -> Result<Vec<(Name8, u32)>> {
-    let mut table = day(rt, first(alloc)?)?;
-    for _day in 1..DAYS {
-        table = day(rt, next(alloc, &table)?)?;
-    }
-    Ok(table.pairs(alloc)?)
+    let (table, mut passes) = Forest::<Table>::lasting(alloc, LIMITS)?;
+    let Some(own) = passes.pop() else {
+        bail!("there is no pass")
+    };
+    let own = table.away(open_all(&table, own)?);
+    work_all(rt, &table, passes)?;
+    let own = table.back(own);
+    Ok(table.end(own).pairs(alloc)?)
 }
 
 fn main(rt: HostRuntime) -> Result<()> {

@@ -9,7 +9,7 @@ use Rattle.std.proofs.lemmas.List.{get_or-map, map-append, map-set, take_more_se
 use Rattle.std.proofs.lemmas.List.Elements.{All-same, All-push, All-pop, All-weaker}
 use Rattle.std.proofs.lemmas.Option.{none-some}
 use Rattle.std.proofs.lemmas.Bool.{false≢true}
-use Rattle.forest.specs.Passes.{Ground, IsOf, PassView}
+use Rattle.tables.specs.Passes.{Ground, IsOf, PassView}
 use Rattle.capi.specs.declared.client.OwnedPass.{OwnedPass}
 use Rattle.capi.specs.declared.client.OwnedPass.TheVariants.{Tree, Trie}
 use Rattle.capi.specs.Owned.{owner_of, pass_of}

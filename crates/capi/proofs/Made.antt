@@ -3,7 +3,7 @@ use Rattle.std.proofs.Common.{◌≡◌, List, [], ◌∷◌, ◌++◌, map, Opt
 use Rattle.std.specs.Option.{option_map}
 use Rattle.std.proofs.lemmas.List.{map-append}
 use Rattle.std.proofs.lemmas.List.Elements.{All-same, All-push}
-use Rattle.forest.specs.Passes.{Ground, PassView}
+use Rattle.tables.specs.Passes.{Ground, PassView}
 use Rattle.capi.specs.Made.{IsHeldOf, pass_at}
 use Rattle.capi.specs.Owned.{pass_of}
 use Rattle.capi.specs.declared.client.OwnedPass.{OwnedPass}

@@ -7,7 +7,7 @@ use Rattle.ordered_map.specs.OrderedMap.{MapReply, OneValue, OnePair, ManyPairs,
 use Rattle.ordered_map.specs.Replies.{word_pair}
 use Rattle.ordered_map.specs.declared.reply.Reply.TheVariants.{Pairs}
 use Rattle.forest.specs.declared.fault.OrderFault.{OrderFault}
-use Rattle.forest.specs.Passes.{Ground, PassView}
+use Rattle.tables.specs.Passes.{Ground, PassView}
 use Rattle.forest.specs.Dictionary.{HasCalledIn, order_reply}
 
 pairs_in : MapReply → List Pair

@@ -9,7 +9,7 @@ use Rattle.ordered_map.specs.declared.pair.Pair.{Pair}
 use Rattle.ordered_map.specs.Replies.{word_pair}
 use Rattle.regnubas.specs.Balance.{map_mode}
 use Rattle.forest.specs.Beginnings.{BeginsWithPairs, HasLimits, IsRefusalOfPairs}
-use Rattle.forest.specs.Passes.{Ground, PassView, AreNew}
+use Rattle.tables.specs.Passes.{Ground, PassView, AreNew}
 use Rattle.forest.specs.declared.fault.PairsFault.{PairsFault}
 use Rattle.forest.specs.declared.fault.PairsFault.TheVariants as faults
 use Rattle.capi.specs.Answers.{StandIn, limits_of, no_count, pair_of}

@@ -5,7 +5,7 @@ use Rattle.std.specs.Arc.{arc_value}
 use Rattle.std.specs.List.{All}
 use Rattle.std.specs.Option.{option_map}
 use Rattle.arena.specs.declared.layout.Layout.{Layout}
-use Rattle.forest.specs.Passes.{Ground, PassView}
+use Rattle.tables.specs.Passes.{Ground, PassView}
 use Rattle.capi.specs.Answers.{StandIn, counted, no_count}
 use Rattle.capi.specs.Left.{AreLeftByAll}
 use Rattle.capi.specs.Handles.{holds_trie}

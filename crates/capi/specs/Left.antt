@@ -11,10 +11,10 @@ use Rattle.dict.specs.Typed.{TypedAllows}
 use Rattle.dict.specs.Words.{IsNumber, IsWideNumber}
 use Rattle.ordered_map.specs.Replies.{word_pair}
 use Rattle.ordered_map.specs.Spelled.{Spells}
-use Rattle.forest.specs.Passes.{PassView, AreAllBack, IsClosed, done_of, run_of}
-use Rattle.forest.specs.Shares.{entries_of}
-use Rattle.forest.specs.TableRule.{history_of}
-use Rattle.forest.specs.declared.table_shape.Keeping.{Ghosts}
+use Rattle.tables.specs.Passes.{PassView, AreAllBack, IsClosed, done_of, run_of}
+use Rattle.tables.specs.Shares.{entries_of}
+use Rattle.tables.specs.TableRule.{history_of}
+use Rattle.tables.specs.declared.table_shape.Keeping.{Ghosts}
 use Rattle.capi.specs.Owned.{pass_of}
 use Rattle.capi.specs.declared.held.Held.{Held}
 use Rattle.capi.specs.declared.client.OwnedPass.{OwnedPass}

@@ -7,7 +7,7 @@ use Rattle.arena.specs.Limits.{IsAccepted, IsLayoutOf}
 use Rattle.arena.specs.declared.limits.Limits.{Limits}
 use Rattle.arena.specs.declared.limits.Mode.{Mode}
 use Rattle.planting.specs.Plantings.{nothing_planted}
-use Rattle.forest.specs.Passes.{Ground, PassView, AreNew}
+use Rattle.tables.specs.Passes.{Ground, PassView, AreNew}
 use Rattle.capi.specs.Owned.{owner_of, pass_of}
 use Rattle.capi.specs.declared.client.OwnedPass.{OwnedPass}
 use Rattle.capi.specs.declared.handle.HandleSlot.{HandleSlot}

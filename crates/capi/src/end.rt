@@ -2,7 +2,7 @@
 ghost use Rattle.std.specs.Prelude.{◌≡◌, ◌↔◌, Some, IfSome, IfNone, IfOk, IsTrue, map, vec_len};
 ghost use Rattle.std.specs.Arc.{arc_value};
 ghost use Rattle.std.specs.List.{All};
-ghost use Rattle.forest.specs.Passes.{Ground, IsOf};
+ghost use Rattle.tables.specs.Passes.{Ground, IsOf};
 ghost use Rattle.capi.specs.Left.{AreLeftByAll};
 ghost use Rattle.capi.specs.Made.{IsHeldOf};
 ghost use Rattle.capi.specs.Ends.{AreHeld, AreOfOne, HaveEndedWith, IsEmpty, IsIn, IsOfTrie, held_in, pass_in};

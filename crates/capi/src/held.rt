@@ -1,7 +1,7 @@
 //! A pass of a tree or of a trie, as its type says.
 ghost use Rattle.std.specs.Prelude.{◌≡◌};
 ghost use Rattle.std.specs.Arc.{arc_value};
-ghost use Rattle.forest.specs.Passes.{IsOf};
+ghost use Rattle.tables.specs.Passes.{IsOf};
 
 use regnubas::{Dict, FilledOnce, Forest, Pass};
 use std::sync::Arc;

@@ -5,7 +5,7 @@ ghost use Rattle.std.specs.Option.{option_map};
 ghost use Rattle.std.specs.Arc.{arc_value};
 ghost use Rattle.arena.specs.Limits.{IsAccepted};
 ghost use Rattle.arena.specs.declared.limits.Mode.TheVariants.{Tree, Trie};
-ghost use Rattle.forest.specs.Passes.{IsOf};
+ghost use Rattle.tables.specs.Passes.{IsOf};
 ghost use Rattle.capi.specs.Made.{IsHeldOf, AreMade, pass_at};
 ghost use Rattle.capi.specs.Owned.{pass_of};
 ghost use Rattle.regnubas.specs.Balance.{map_mode};

@@ -1,7 +1,7 @@
 //! Dictionaries that passes share.
 ghost use Rattle.std.specs.Prelude.{IfOk, IfSome};
 ghost use Rattle.std.specs.List.{All};
-ghost use Rattle.forest.specs.Passes.{IsOf};
+ghost use Rattle.tables.specs.Passes.{IsOf};
 
 mod beginnings;
 mod call;

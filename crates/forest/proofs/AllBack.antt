@@ -4,7 +4,7 @@ use Rattle.std.proofs.Math.Nat.{eq-or-lt_of_le}
 use Rattle.std.specs.List.{list_any}
 use Rattle.std.proofs.lemmas.Cmp.{nat_eq_equiv}
 use Rattle.std.proofs.lemmas.Map.Views.{Contains-from_any, list_any-from_Contains, exact_unsigned_eq}
-use Rattle.forest.specs.Passes.{PassView, HasPass}
+use Rattle.tables.specs.Passes.{PassView, HasPass}
 
 -- some pass has the number where some number is it
 any_number : (ps : List PassView) (n : ℕ) → list_any (λ (p : PassView). eqb n p.number) ps ≡ list_any (eqb n) (map (λ (p : PassView). p.number) ps)

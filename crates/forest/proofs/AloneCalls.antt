@@ -7,7 +7,7 @@ use Rattle.template.specs.Common.{most_nodes, most_scx, MapCall, tries_since}
 use Rattle.template.proofs.Lemmas.{alone_once}
 use Rattle.dict.specs.Laws.EachCall.{one_alone, tries_take}
 use Rattle.forest.specs.Dictionary.{HasSpentAtMost}
-use Rattle.forest.specs.Passes.{PassView, run_of}
+use Rattle.tables.specs.Passes.{PassView, run_of}
 
 one_try : (call : MapCall) (begun old left : ℕ) → begun ≤ 1 → old ≤ left + most_scx call begun → old ≤ left + most_scx call 1
 one_try call begun old left one spent = let few = tries_take call begun 1 (subst (λ (n : ℕ). begun ≤ n) (sym (one_alone call)) one) in omega (arith, few, spent)

@@ -11,9 +11,9 @@ use Rattle.ordered_map.proofs.MapLemmas.{start_spells}
 use Rattle.dict.specs.Laws.TypedMaps.{typed_run}
 use Rattle.dict.specs.Typed.{AreTyped, TypedAllows}
 use Rattle.planting.specs.Plantings.{PlantingView, IsPlantingOf, opening_for}
-use Rattle.forest.specs.declared.rule.Plot.{Plot}
+use Rattle.tables.specs.declared.rule.Plot.{Plot}
 use Rattle.forest.specs.Beginnings.{BeginsWithPairs, IsPlotWith}
-use Rattle.forest.specs.Passes.{Ground, ground}
+use Rattle.tables.specs.Passes.{Ground, ground}
 
 pub begins_run : (keys values : ℕ → Type 0) (lay : Layout) (mode : Mode) (ps : List Pair) (p : PlantingView) → IsPlantingOf mode ps p → lay.mode ≡ mode → length p.nodes ≤ lay.planted → AreTyped keys values ps → IsRun (TypedAllows keys values) lay (Opened (opening_for p))
 unfolding Lawful Shaped

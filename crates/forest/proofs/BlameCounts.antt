@@ -13,7 +13,7 @@ use Rattle.histories.specs.Common.{Layout, info, state, History, ◌⊳◌, valu
 use Rattle.arena.proofs.Lemmas.{held_since, plan_counted}
 use Rattle.histories.proofs.Lemmas.{facts, lawful_since, member_of, state_since}
 use Rattle.template.specs.Blame.{IsOverOrNew}
-use Rattle.forest.specs.Passes.{IsBlamedFor, times_in}
+use Rattle.tables.specs.Passes.{IsBlamedFor, times_in}
 
 -- Counts
 

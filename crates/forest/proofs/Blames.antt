@@ -10,7 +10,7 @@ use Rattle.prims.specs.Laws.Begun.{taken_since}
 use Rattle.prims.specs.Shares.{IsShare}
 use Rattle.prims.proofs.Lemmas.{left_own_scx}
 use Rattle.template.specs.Blame.{IsOverOrNew}
-use Rattle.forest.specs.Passes.{PassView, HasBlamed, run_of}
+use Rattle.tables.specs.Passes.{PassView, HasBlamed, run_of}
 use Rattle.forest.proofs.BlameCounts.{for_nobody, for_later, few_more, each_more}
 
 -- What stays

@@ -26,20 +26,20 @@ use Rattle.resting.specs.Rests.{HasRestedAt}
 use Rattle.resting.proofs.Lemmas.{no_row_behind, unborn_since}
 use Rattle.template.specs.Balance.{map_mode}
 use Rattle.touching.specs.Steps.{IsMapCall, IsMapStep}
-use Rattle.forest.specs.CallSteps.{dict_step}
+use Rattle.tables.specs.CallSteps.{dict_step}
 use Rattle.forest.specs.PassInvariant.{IsPass, layout_in, pass_view, seated_in}
-use Rattle.forest.specs.Passes.{taken_of}
-use Rattle.forest.specs.StraightCalls.{IsSameDictCall}
-use Rattle.forest.specs.Traces.{Trace, begins, goes_on, makes, others, run_at}
-use Rattle.forest.specs.UpkeepKeeper.{StaysOut}
-use Rattle.forest.specs.UpkeepLost.{IsLostReply}
+use Rattle.tables.specs.Passes.{taken_of}
+use Rattle.straight.specs.StraightCalls.{IsSameDictCall}
+use Rattle.tables.specs.Traces.{Trace, begins, goes_on, makes, others, run_at}
+use Rattle.upkeep.specs.UpkeepKeeper.{StaysOut}
+use Rattle.upkeep.specs.UpkeepLost.{IsLostReply}
 use Rattle.forest.specs.declared.pass.Pass.TheInside.{Inside}
-use Rattle.forest.specs.declared.view.SeatView.{SeatView}
+use Rattle.tables.specs.declared.view.SeatView.{SeatView}
 use Rattle.forest.proofs.Called.{course_since}
 use Rattle.forest.proofs.DictCalls.{Answered}
 use Rattle.forest.proofs.Entered.{HasEnded, left_with}
 use Rattle.forest.proofs.Passes.{call_of}
-use Rattle.forest.proofs.UpkeepStays.{PutsInNone}
+use Rattle.upkeep.proofs.UpkeepStays.{PutsInNone}
 use Rattle.forest.proofs.WholeCalls.{IsOver, ended}
 
 -- Steps

@@ -2,9 +2,9 @@
 use Rattle.std.proofs.Common.{◌≡◌, ℕ, zero, suc, ◌≤◌, inl, inr, List, [], ◌∷◌, ◌++◌, refl, sym, subst, arith}
 use Rattle.histories.specs.Common.{Layout, Row, Step, History, Opened, ◌⊳◌, Extends, Call, row_of}
 use Rattle.arena.proofs.Lemmas.{ends_self, ends_trans}
-use Rattle.forest.specs.TableRule.{history_of, ByOthers}
-use Rattle.forest.specs.Traces.{Trace, begins, others, makes, goes_on}
-use Rattle.forest.specs.Passes.{AreOfCall, HoldsOfOwn}
+use Rattle.tables.specs.TableRule.{history_of, ByOthers}
+use Rattle.tables.specs.Traces.{Trace, begins, others, makes, goes_on}
+use Rattle.tables.specs.Passes.{AreOfCall, HoldsOfOwn}
 use Rattle.planting.specs.Plantings.{PlantingView}
 
 -- no history ends with a longer one

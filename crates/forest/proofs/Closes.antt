@@ -9,28 +9,28 @@ use Rattle.atomic_table.specs.Table.{Final, Seen}
 use Rattle.histories.specs.Common.{Layout, Row, Word, place, IsWord, child, History, value, Extends, log, HasScx, Lawful, IsRun, Mode}
 use Rattle.arena.proofs.Lemmas.{ends_trans}
 use Rattle.histories.proofs.Lemmas.{fields_are, lawful_since}
-use Rattle.forest.specs.declared.rule.Plot.{Plot}
-use Rattle.forest.specs.declared.rule.Site.{Site}
-use Rattle.forest.specs.declared.view.SeatedPass.{SeatedPass}
-use Rattle.forest.specs.declared.view.SeatView.{SeatView}
+use Rattle.tables.specs.declared.rule.Plot.{Plot}
+use Rattle.tables.specs.declared.rule.Site.{Site}
+use Rattle.tables.specs.declared.view.SeatedPass.{SeatedPass}
+use Rattle.tables.specs.declared.view.SeatView.{SeatView}
 use Rattle.forest.specs.declared.pass.Pass.TheInside.{Inside}
-use Rattle.forest.specs.Ruled.{IsRuled}
-use Rattle.forest.specs.Slotted.{names_of_table}
-use Rattle.forest.specs.TableRule.{history_of, seated_pass, look, after_look, Made, TableIsLawful, Owns, Behind, plot_of, HasLookedBehind}
-use Rattle.forest.specs.Traces.{known_of, planting_of, memory_of, run_at, rows_of}
+use Rattle.tables.specs.Ruled.{IsRuled}
+use Rattle.tables.specs.Slotted.{names_of_table}
+use Rattle.tables.specs.TableRule.{history_of, seated_pass, look, after_look, Made, TableIsLawful, Owns, Behind, plot_of, HasLookedBehind}
+use Rattle.tables.specs.Traces.{known_of, planting_of, memory_of, run_at, rows_of}
 use Rattle.prims.specs.Shares.{IsShare}
-use Rattle.forest.specs.Shares.{IsBetweenCalls, entries_of}
-use Rattle.forest.specs.Passes.{PassView, IsOn, HoldsOfOwn, IsLook, AreBegun, HasBlamed, HaveLeftShares, IsClosed, run_of, done_of, steps_of}
+use Rattle.tables.specs.Shares.{IsBetweenCalls, entries_of}
+use Rattle.tables.specs.Passes.{PassView, IsOn, HoldsOfOwn, IsLook, AreBegun, HasBlamed, HaveLeftShares, IsClosed, run_of, done_of, steps_of}
 use Rattle.forest.specs.JoinedSeats.{IsFrom, IsOneOf, AreIn}
 use Rattle.forest.specs.PassInvariant.{pass_view, IsPass, layout_in}
 use Rattle.forest.proofs.Called.{own_others}
-use Rattle.forest.proofs.Advances.{keeps_all, rows_by_others, same_knower}
+use Rattle.straight.proofs.Advances.{keeps_all, rows_by_others, same_knower}
 use Rattle.prims.proofs.Lemmas.{next_unwon}
-use Rattle.forest.proofs.Calls.{IsQuiet, quiet_start, quiet_other}
+use Rattle.straight.proofs.AfterCalls.{IsQuiet, quiet_start, quiet_other}
 use Rattle.forest.proofs.Blames.{blames_left}
 use Rattle.forest.proofs.Passes.{HasOnlyLoaded, seated, called_pass, called_nothing}
-use Rattle.forest.proofs.Ruled.{plain_plot, ruled_from}
-use Rattle.forest.proofs.Slotted.{names_are}
+use Rattle.tables.proofs.Ruled.{plain_plot, ruled_from}
+use Rattle.tables.proofs.Slotted.{names_are}
 use Rattle.forest.proofs.Meets.{look_called, look_looks, look_steps}
 
 -- the element of a list, by either way to read it

@@ -3,8 +3,8 @@ use Rattle.std.proofs.Common.{List, ap, get_or}
 use Rattle.std.specs.List.{All}
 use Rattle.std.proofs.lemmas.Option.{slice_get-get_or}
 use Rattle.slots.specs.Lasting.{Lasting}
-use Rattle.forest.specs.LastingTables.{AreNewIn}
-use Rattle.forest.specs.Passes.{PassView, Ground, IsOf, AreNew}
+use Rattle.tables.specs.LastingTables.{AreNewIn}
+use Rattle.tables.specs.Passes.{PassView, Ground, IsOf, AreNew}
 
 -- new passes are of their forest
 pub new_are_of : (f : Ground) (passes : List PassView) → AreNew f passes → All (IsOf f) passes

@@ -26,19 +26,19 @@ use Rattle.dict.specs.declared.dict.DictRun.{DictRun}
 use Rattle.ordered_map.specs.declared.request.Request.{Request}
 use Rattle.ordered_map.specs.declared.request.Request.TheVariants as requests
 use Rattle.ordered_map.specs.declared.reply.Reply.TheVariants as replies
-use Rattle.forest.specs.declared.memory.PassMemory.{PassMemory}
-use Rattle.forest.specs.declared.view.SeatView.{SeatView}
-use Rattle.forest.specs.CallSteps.{HasDictLeft}
+use Rattle.tables.specs.declared.memory.PassMemory.{PassMemory}
+use Rattle.tables.specs.declared.view.SeatView.{SeatView}
+use Rattle.tables.specs.CallSteps.{HasDictLeft}
 use Rattle.forest.specs.declared.pass.Pass.TheInside.{Inside}
 use Rattle.forest.specs.Dictionary.{IsToldOf, IsRefusalOf, HasSpentAtMost, blamed_by_reply}
-use Rattle.forest.specs.StraightCalls.{IsFreshCall, IsSameDictCall, SeatCallBegins}
-use Rattle.forest.specs.Passes.{PassView, HasBlamed, HasGoneOn, run_of, taken_of}
+use Rattle.straight.specs.StraightCalls.{IsFreshCall, IsSameDictCall, SeatCallBegins}
+use Rattle.tables.specs.Passes.{PassView, HasBlamed, HasGoneOn, run_of, taken_of}
 use Rattle.forest.specs.PassInvariant.{pass_view, layout_in, IsPass}
-use Rattle.forest.specs.Shares.{EndsAsDealt, IsBetweenCalls}
-use Rattle.forest.specs.Traces.{CallBegins, HoldsForCall, Trace, known_of, memory_of, seat_steps, planting_of}
+use Rattle.tables.specs.Shares.{EndsAsDealt, IsBetweenCalls}
+use Rattle.tables.specs.Traces.{CallBegins, HoldsForCall, Trace, known_of, memory_of, seat_steps, planting_of}
 use Rattle.forest.proofs.Blames.{blamed_later, blamed_on_map}
 use Rattle.forest.proofs.Versions.{told_says, lost_says, full_says, nothing_says}
-use Rattle.forest.proofs.Calls.{course_keeps}
+use Rattle.straight.proofs.AfterCalls.{course_keeps}
 use Rattle.forest.proofs.Entered.{HasEnded, ended, left_with, ended_pass, ended_goes_on, rests_between}
 use Rattle.forest.proofs.Passes.{begun_with, call_of}
 

@@ -11,22 +11,22 @@ use Rattle.prims.proofs.Lemmas.{over_begins}
 use Rattle.ordered_map.specs.OrderedMap.{MapEdit}
 use Rattle.edits.specs.Known.{HasMade, RestsWith}
 use Rattle.edits.specs.Tries.{HasEnteredNone}
-use Rattle.forest.specs.declared.memory.PassMemory.{PassMemory}
-use Rattle.forest.specs.declared.view.SeatView.{SeatView}
+use Rattle.tables.specs.declared.memory.PassMemory.{PassMemory}
+use Rattle.tables.specs.declared.view.SeatView.{SeatView}
 use Rattle.forest.specs.declared.pass.Pass.TheInside.{Inside}
-use Rattle.forest.specs.TableRule.{history_of}
-use Rattle.forest.specs.Traces.{IsSeated, Trace, HoldsForCall, memory_of, seat_steps, run_at, kept_of}
-use Rattle.forest.specs.Shares.{HasFewNames, EndsAsDealt, IsBetweenCalls, entries_of}
-use Rattle.forest.specs.Passes.{AreOfCall, HasBlamed, HasGoneOn, IsLaterView, run_of}
-use Rattle.forest.specs.UpkeepKeeper.{StaysOut}
+use Rattle.tables.specs.TableRule.{history_of}
+use Rattle.tables.specs.Traces.{IsSeated, Trace, HoldsForCall, memory_of, seat_steps, run_at, kept_of}
+use Rattle.tables.specs.Shares.{HasFewNames, EndsAsDealt, IsBetweenCalls, entries_of}
+use Rattle.tables.specs.Passes.{AreOfCall, HasBlamed, HasGoneOn, IsLaterView, run_of}
+use Rattle.upkeep.specs.UpkeepKeeper.{StaysOut}
 use Rattle.forest.specs.UpkeepKept.{KeepsRight}
 use Rattle.forest.proofs.UpkeepKept.{keeps_right}
 use Rattle.planting.specs.Plantings.{PlantingView}
 use Rattle.forest.specs.PassInvariant.{pass_view, layout_in, IsPass, seated_in}
-use Rattle.forest.proofs.Frames.{entry_mine, entry_others}
+use Rattle.tables.proofs.Frames.{entry_mine, entry_others}
 use Rattle.forest.proofs.Called.{course_calls, course_since}
 use Rattle.forest.proofs.Passes.{call_of, can_use_later, steps_are}
-use Rattle.forest.proofs.Advances.{call_back}
+use Rattle.straight.proofs.Advances.{call_back}
 
 -- Entries
 

@@ -17,22 +17,22 @@ use Rattle.resting.specs.Records.{the_node}
 use Rattle.slots.specs.Held.{IsHeld}
 use Rattle.slots.specs.Lasting.{IsLasting, Lasting, table_place}
 use Rattle.slots.proofs.Lemmas.{held_inside}
-use Rattle.forest.specs.declared.rule.Plot.{Plot}
-use Rattle.forest.specs.declared.rule.Site.{Site}
-use Rattle.forest.specs.declared.rule.Turns.{Turns}
-use Rattle.forest.specs.declared.view.SeatView.{SeatView}
-use Rattle.forest.specs.declared.view.SeatedPass.{SeatedPass}
-use Rattle.forest.specs.LastingRule.{TableLasts, plot_in}
-use Rattle.forest.specs.Passes.{HasBlamed, HaveLeftShares, IsOn, PassView, done_of, run_of, steps_of}
+use Rattle.tables.specs.declared.rule.Plot.{Plot}
+use Rattle.tables.specs.declared.rule.Site.{Site}
+use Rattle.tables.specs.declared.rule.Turns.{Turns}
+use Rattle.tables.specs.declared.view.SeatView.{SeatView}
+use Rattle.tables.specs.declared.view.SeatedPass.{SeatedPass}
+use Rattle.tables.specs.LastingRule.{TableLasts, plot_in}
+use Rattle.tables.specs.Passes.{HasBlamed, HaveLeftShares, IsOn, PassView, done_of, run_of, steps_of}
 use Rattle.forest.specs.Remains.{AreAsKnown, AreNamedBySlots, AreRemains, AreSeated, IsSeatOf, ShowTree, SlotWords}
-use Rattle.forest.specs.Ruled.{IsRuled, ruled_by}
-use Rattle.forest.specs.Shares.{entries_of}
-use Rattle.forest.specs.Slotted.{in_turns, names_of_table, slots_by, slots_of_table}
-use Rattle.forest.specs.TableRule.{Behind, Owns, history_of, plot_of, seated_pass}
-use Rattle.forest.specs.Traces.{rows_of}
-use Rattle.forest.proofs.Advances.{keeps_all, rows_by_others}
+use Rattle.tables.specs.Ruled.{IsRuled, ruled_by}
+use Rattle.tables.specs.Shares.{entries_of}
+use Rattle.tables.specs.Slotted.{in_turns, names_of_table, slots_by, slots_of_table}
+use Rattle.tables.specs.TableRule.{Behind, Owns, history_of, plot_of, seated_pass}
+use Rattle.tables.specs.Traces.{rows_of}
+use Rattle.straight.proofs.Advances.{keeps_all, rows_by_others}
 use Rattle.forest.proofs.Blames.{blames_left}
-use Rattle.forest.proofs.Calls.{IsQuiet, quiet_other, quiet_start}
+use Rattle.straight.proofs.AfterCalls.{IsQuiet, quiet_other, quiet_start}
 use Rattle.forest.proofs.Closes.{one_left, one_right, owned_behind, plot_seen}
 use Rattle.forest.proofs.SlotTrees.{renamed_spells}
 

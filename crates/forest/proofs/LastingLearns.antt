@@ -5,14 +5,14 @@ use Rattle.histories.specs.Common.{History, Layout, Row}
 use Rattle.planting.specs.Plantings.{PlantingView}
 use Rattle.slots.specs.Lasting.{Lasting}
 use Rattle.forest.specs.LastingMeets.{AllLearn, AreBehind, all_aware}
-use Rattle.forest.specs.LastingMemory.{Present, RememberWell, present}
-use Rattle.forest.specs.LastingRule.{TableLasts, plot_in}
-use Rattle.forest.specs.TableRule.{Absent, Owns, history_of, seat_view}
-use Rattle.forest.specs.declared.rule.Plot.{Plot}
-use Rattle.forest.specs.declared.view.SeatView.{SeatView}
-use Rattle.forest.specs.declared.view.SeatedPass.{SeatedPass}
-use Rattle.forest.proofs.LastingKept.{views_kept}
-use Rattle.forest.proofs.LastingSeats.{set_self}
+use Rattle.tables.specs.LastingMemory.{Present, RememberWell, present}
+use Rattle.tables.specs.LastingRule.{TableLasts, plot_in}
+use Rattle.tables.specs.TableRule.{Absent, Owns, history_of, seat_view}
+use Rattle.tables.specs.declared.rule.Plot.{Plot}
+use Rattle.tables.specs.declared.view.SeatView.{SeatView}
+use Rattle.tables.specs.declared.view.SeatedPass.{SeatedPass}
+use Rattle.tables.proofs.LastingKept.{views_kept}
+use Rattle.tables.proofs.LastingSeats.{set_self}
 
 absent_aware : (n : ℕ) (rows : List Row) (ps : List SeatedPass) → Absent n ps → Absent n (all_aware rows ps)
 absent_aware n rows [] x = tt

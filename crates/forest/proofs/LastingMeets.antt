@@ -8,27 +8,27 @@ use Rattle.histories.specs.Common.{Extends, HasScx, History, IsRun, Layout, Lawf
 use Rattle.ordered_map.specs.Runs.{IsMapRun}
 use Rattle.planting.specs.Plantings.{PlantingView}
 use Rattle.forest.specs.declared.pass.Pass.TheInside.{Inside}
-use Rattle.forest.specs.declared.rule.Plot.{Plot}
-use Rattle.forest.specs.declared.view.SeatView.{SeatView}
-use Rattle.forest.specs.declared.view.SeatedPass.{SeatedPass}
+use Rattle.tables.specs.declared.rule.Plot.{Plot}
+use Rattle.tables.specs.declared.view.SeatView.{SeatView}
+use Rattle.tables.specs.declared.view.SeatedPass.{SeatedPass}
 use Rattle.forest.specs.LastingMeets.{AreBehind, HasOnlyLearnt, SharedRun, all_aware, aware_of}
-use Rattle.forest.specs.Passes.{HaveLeftShares, HoldsOfOwn, IsLaterView, PassView, run_of}
+use Rattle.tables.specs.Passes.{HaveLeftShares, HoldsOfOwn, IsLaterView, PassView, run_of}
 use Rattle.forest.specs.PassInvariant.{IsPass, layout_in, pass_view, seated_in}
-use Rattle.forest.specs.TableRule.{Behind, dealt_to, first_of, history_of, plot_of, rest_of, seated_pass}
-use Rattle.forest.specs.UpkeepKeeper.{StaysOut}
+use Rattle.tables.specs.TableRule.{Behind, dealt_to, first_of, history_of, plot_of, rest_of, seated_pass}
+use Rattle.upkeep.specs.UpkeepKeeper.{StaysOut}
 use Rattle.forest.specs.UpkeepKept.{KeepsRight}
-use Rattle.forest.specs.UpkeepSteps.{HasGoneOnResting}
-use Rattle.forest.specs.Traces.{known_of, memory_of, planting_of, rest_at, rows_of, run_at}
-use Rattle.forest.proofs.Advances.{keeps_all, rows_by_others, seat_back}
+use Rattle.upkeep.specs.UpkeepSteps.{HasGoneOnResting}
+use Rattle.tables.specs.Traces.{known_of, memory_of, planting_of, rest_at, rows_of, run_at}
+use Rattle.straight.proofs.Advances.{keeps_all, rows_by_others, seat_back}
 use Rattle.forest.proofs.Blames.{blames_left}
 use Rattle.forest.proofs.Called.{own_others, own_start}
-use Rattle.forest.proofs.Calls.{IsQuiet, quiet_other, quiet_start}
+use Rattle.straight.proofs.AfterCalls.{IsQuiet, quiet_other, quiet_start}
 use Rattle.forest.proofs.Meets.{behind_ends}
 use Rattle.forest.proofs.Passes.{HasOnlyLoaded, called_nothing, called_pass, can_use_later, seated}
 use Rattle.forest.proofs.Rested.{between_now}
-use Rattle.forest.proofs.UpkeepDeals.{resting_deals}
+use Rattle.upkeep.proofs.UpkeepDeals.{resting_deals}
 use Rattle.forest.proofs.UpkeepKept.{keeps_right}
-use Rattle.forest.proofs.UpkeepStays.{PutsInNone, stays_out}
+use Rattle.upkeep.proofs.UpkeepStays.{PutsInNone, stays_out}
 
 module _ {allows : Layout → History → ℕ → Type 0} {mode : Mode} {T : Type 0} (p : Inside T) (x : IsPass allows mode p) (s : Seat ℕ SeatView) (rows : List Row) (behind : Behind rows (seated_in p)) (run : IsRun allows (layout_in p) (history_of (planting_of p.seat.me.0.passes) rows)) (are : s.me.0.passes ≡ aware_of rows (seated_in p) ∷ []) where
   abbrev planting : PlantingView

@@ -6,18 +6,18 @@ use Rattle.histories.specs.Common.{NodeNo, Layout, Fill, History, is_final, Mode
 use Rattle.template.specs.Common.{IsSnapshot, HasJustLooked, LlxIsReady, LlxWaits, LlxAnswers, Llx, Snapshot, Finalized, Fail, LlxRun}
 use Rattle.prims.proofs.Lemmas.{llx_fills_not, ready_at_start, cell_opened, finalized_at_start, all_idle, alone_now, usable_now}
 use Rattle.prims.specs.declared.llx.LlxAt.TheVariants.{Start}
-use Rattle.forest.specs.declared.memory.PassMemory.{PassMemory}
-use Rattle.forest.specs.declared.view.SeatView.{SeatView}
+use Rattle.tables.specs.declared.memory.PassMemory.{PassMemory}
+use Rattle.tables.specs.declared.view.SeatView.{SeatView}
 use Rattle.forest.specs.declared.pass.Pass.TheInside.{Inside}
-use Rattle.forest.specs.Traces.{Trace, HoldsForCall, seat_steps, run_at}
-use Rattle.forest.specs.Passes.{HasGoneOn, HasTakenNothing, HoldsOfOwn, LlxSays, IsFinalizedAnswer, blamed_by, run_of, seen_of}
+use Rattle.tables.specs.Traces.{Trace, HoldsForCall, seat_steps, run_at}
+use Rattle.tables.specs.Passes.{HasGoneOn, HasTakenNothing, HoldsOfOwn, LlxSays, IsFinalizedAnswer, blamed_by, run_of, seen_of}
 use Rattle.forest.specs.PassInvariant.{pass_view, layout_in, IsPass}
 use Rattle.forest.specs.StepKinds.{HasFilledNothing}
-use Rattle.forest.specs.StraightLlx.{llx_at, SeatLlxEnds}
-use Rattle.forest.specs.CallSteps.{AnyLeft, no_map_of_cells}
-use Rattle.forest.specs.TableRule.{history_of}
+use Rattle.straight.specs.StraightLlx.{llx_at, SeatLlxEnds}
+use Rattle.tables.specs.CallSteps.{AnyLeft, no_map_of_cells}
+use Rattle.tables.specs.TableRule.{history_of}
 use Rattle.forest.proofs.Called.{course_holds}
-use Rattle.forest.proofs.Calls.{course_keeps}
+use Rattle.straight.proofs.AfterCalls.{course_keeps}
 use Rattle.forest.proofs.Blames.{blamed_more}
 use Rattle.forest.proofs.Passes.{HasOnlyLoaded, begun_with, called_pass, called_goes_on, called_nothing, call_of, seated, called}
 

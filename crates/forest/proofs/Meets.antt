@@ -5,20 +5,20 @@ use Rattle.std.proofs.Common.{◌≡◌, ◌≢◌, ℕ, suc, List, [], ◌∷�
 use Rattle.atomic_table.specs.declared.shared.Seat.{Seat}
 use Rattle.histories.specs.Common.{HasScx, Layout, Mode, Row, History, ◌⊳◌, Extends, Lawful, IsRun}
 use Rattle.arena.proofs.Lemmas.{ends_self, ends_trans}
-use Rattle.forest.specs.declared.view.SeatedPass.{SeatedPass}
-use Rattle.forest.specs.declared.view.SeatView.{SeatView}
+use Rattle.tables.specs.declared.view.SeatedPass.{SeatedPass}
+use Rattle.tables.specs.declared.view.SeatView.{SeatView}
 use Rattle.forest.specs.declared.pass.Pass.TheInside.{Inside}
-use Rattle.forest.specs.TableRule.{dealt_to, history_of, seated_pass, row, look, Looked, HasLookedBehind, Met, after_look, Behind, plot_of}
-use Rattle.forest.specs.Traces.{known_of, rows_of, planting_of, rest_at, memory_of, run_at}
-use Rattle.forest.specs.Passes.{PassView, HoldsOfOwn, IsLook, HasLookedOnce, HaveLeftShares, IsLaterView, run_of, steps_of}
+use Rattle.tables.specs.TableRule.{dealt_to, history_of, seated_pass, row, look, Looked, HasLookedBehind, Met, after_look, Behind, plot_of}
+use Rattle.tables.specs.Traces.{known_of, rows_of, planting_of, rest_at, memory_of, run_at}
+use Rattle.tables.specs.Passes.{PassView, HoldsOfOwn, IsLook, HasLookedOnce, HaveLeftShares, IsLaterView, run_of, steps_of}
 use Rattle.forest.specs.PassInvariant.{pass_view, layout_in, IsPass}
-use Rattle.forest.proofs.Advances.{keeps_all, rows_by_others, same_knower, seat_back}
-use Rattle.forest.proofs.Calls.{IsQuiet, quiet_start, quiet_other, quiet_step}
+use Rattle.straight.proofs.Advances.{keeps_all, rows_by_others, same_knower, seat_back}
+use Rattle.straight.proofs.AfterCalls.{IsQuiet, quiet_start, quiet_other, quiet_step}
 use Rattle.forest.proofs.Blames.{blames_left}
 use Rattle.forest.proofs.Called.{own_start, own_more, own_others}
 use Rattle.forest.proofs.Passes.{HasOnlyLoaded, seated, called_pass, called_nothing, can_use_later}
 use Rattle.planting.specs.Plantings.{PlantingView}
-use Rattle.forest.specs.declared.rule.Plot.{Plot}
+use Rattle.tables.specs.declared.rule.Plot.{Plot}
 
 -- Two looks
 

@@ -13,12 +13,12 @@ use Rattle.dict.specs.declared.shape.Dict.{Dict}
 use Rattle.forest.specs.declared.open.OpenCall.TheInside.{Inside}
 use Rattle.forest.specs.declared.pass.Pass.TheInside as pass
 use Rattle.forest.specs.OpenInvariant.{IsOpen, KeepsOwn}
-use Rattle.forest.specs.Passes.{PassView, steps_of, taken_of}
+use Rattle.tables.specs.Passes.{PassView, steps_of, taken_of}
 use Rattle.forest.specs.PassInvariant.{IsPass, layout_in, pass_view, seated_in}
-use Rattle.forest.specs.TableRule.{seated_pass}
+use Rattle.tables.specs.TableRule.{seated_pass}
 use Rattle.forest.specs.UpkeepKept.{KeepsRight}
-use Rattle.forest.specs.Traces.{known_of, memory_of, planting_of, seat_steps, shared_nodes, weight}
-use Rattle.forest.proofs.Advances.{since_start}
+use Rattle.tables.specs.Traces.{known_of, memory_of, planting_of, seat_steps, shared_nodes, weight}
+use Rattle.straight.proofs.Advances.{since_start}
 use Rattle.forest.proofs.OpenSteps.{DictStands, differ}
 use Rattle.forest.proofs.Passes.{call_of, steps_are}
 

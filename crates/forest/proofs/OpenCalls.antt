@@ -13,21 +13,21 @@ use Rattle.forest.specs.declared.open.OpenCall.TheInside.{Inside}
 use Rattle.forest.specs.declared.pass.Pass.TheInside as pass
 use Rattle.forest.specs.Dictionary.{HasCalledIn, blamed_by_reply}
 use Rattle.forest.specs.OpenInvariant.{IsOpen, KeepsOwn, next_call, pass_as}
-use Rattle.forest.specs.Passes.{Ground, IsOf, run_of, steps_of}
+use Rattle.tables.specs.Passes.{Ground, IsOf, run_of, steps_of}
 use Rattle.forest.specs.PassInvariant.{IsPass, pass_view, layout_in, seated_in}
-use Rattle.forest.specs.CallSteps.{HasDictLeft}
-use Rattle.forest.specs.TableRule.{seated_pass}
-use Rattle.forest.specs.Traces.{Stands, memory_of, run_at, seat_steps}
-use Rattle.forest.specs.UpkeepKeeper.{StaysOut}
+use Rattle.tables.specs.CallSteps.{HasDictLeft}
+use Rattle.tables.specs.TableRule.{seated_pass}
+use Rattle.tables.specs.Traces.{Stands, memory_of, run_at, seat_steps}
+use Rattle.upkeep.specs.UpkeepKeeper.{StaysOut}
 use Rattle.forest.specs.UpkeepKept.{KeepsRight}
-use Rattle.forest.specs.UpkeepLost.{AreUnborn, IsLostReply}
-use Rattle.forest.specs.declared.view.SeatedPass.{SeatedPass}
-use Rattle.forest.specs.StraightCalls.{IsSameDictCall, SeatDictEnds}
+use Rattle.upkeep.specs.UpkeepLost.{AreUnborn, IsLostReply}
+use Rattle.tables.specs.declared.view.SeatedPass.{SeatedPass}
+use Rattle.straight.specs.StraightCalls.{IsSameDictCall, SeatDictEnds}
 use Rattle.forest.proofs.CallStays.{call_keeps_out, call_lost}
 use Rattle.forest.proofs.DictCalls.{behind, dict_pass}
 use Rattle.forest.proofs.Passes.{steps_are}
 use Rattle.forest.proofs.UpkeepKept.{keeps_right}
-use Rattle.forest.proofs.UpkeepStays.{PutsInNone}
+use Rattle.upkeep.proofs.UpkeepStays.{PutsInNone}
 use Rattle.forest.proofs.WholeCalls.{ended, left_end, says, stays_dealt}
 
 module _ {K V B : Type 0} (valid_key : K → Type 0) (key : K → ℕ) (valid_value : V → Type 0) (value_word : V → ℕ) {trie : Bool} (o : Inside K V B) (x : IsOpen valid_key key valid_value value_word trie o) (reply : Reply K V) (is : o.turn ≡ Done reply) where

@@ -11,24 +11,24 @@ use Rattle.dict.specs.Typed.{TypedAllows}
 use Rattle.dict.specs.Words.{IsWordOf}
 use Rattle.dict.specs.declared.dict.DictRun.{DictRun}
 use Rattle.forest.specs.declared.open.OpenCall.TheInside.{Inside}
-use Rattle.forest.specs.declared.view.SeatedPass.{SeatedPass}
-use Rattle.forest.specs.declared.view.SeatView.{SeatView}
-use Rattle.forest.specs.Hosts.{Host, HostedStands, HostedWaits}
+use Rattle.tables.specs.declared.view.SeatedPass.{SeatedPass}
+use Rattle.tables.specs.declared.view.SeatView.{SeatView}
+use Rattle.straight.specs.Hosts.{Host, HostedStands, HostedWaits}
 use Rattle.forest.specs.OpenInvariant.{IsOpen, KeepsOwn, next_call}
-use Rattle.forest.specs.Passes.{steps_of}
-use Rattle.forest.specs.StraightCalls.{IsSameDictCall}
-use Rattle.forest.specs.CallSteps.{HasDictLeft}
-use Rattle.forest.specs.TableRule.{history_of, seated_pass}
-use Rattle.forest.specs.Traces.{Stands, kept_of, layout_at, seat_steps, shared_nodes, weight, run_at}
-use Rattle.forest.proofs.Advances.{weighs}
-use Rattle.forest.proofs.Calls.{course_keeps}
+use Rattle.tables.specs.Passes.{steps_of}
+use Rattle.straight.specs.StraightCalls.{IsSameDictCall}
+use Rattle.tables.specs.CallSteps.{HasDictLeft}
+use Rattle.tables.specs.TableRule.{history_of, seated_pass}
+use Rattle.tables.specs.Traces.{Stands, kept_of, layout_at, seat_steps, shared_nodes, weight, run_at}
+use Rattle.straight.proofs.Advances.{weighs}
+use Rattle.straight.proofs.AfterCalls.{course_keeps}
 use Rattle.forest.proofs.DictCalls.{IsSameCall}
 use Rattle.planting.specs.Plantings.{PlantingView}
 use Rattle.forest.specs.UpkeepKept.{KeepsRight}
-use Rattle.forest.specs.declared.memory.PassMemory.{PassMemory}
-use Rattle.forest.proofs.Hosts.{own, own_call, own_stands}
+use Rattle.tables.specs.declared.memory.PassMemory.{PassMemory}
+use Rattle.straight.proofs.Hosts.{own, own_call, own_stands}
 use Rattle.forest.proofs.StepKinds.{waits_asks}
-use Rattle.forest.proofs.StraightCalls.{dict_calls}
+use Rattle.straight.proofs.StraightCalls.{dict_calls}
 
 -- what it keeps of its own records was right as it began, whatever step it makes
 pub step_keeps : {K V B : Type 0} (o : Inside K V B) (s : Seat ℕ SeatView) (m : DictRun K V) (turn : Turn (Reply K V)) (over : Bool) → kept_of s.me.0.passes ≡ kept_of o.seat.me.0.passes → KeepsOwn o → KeepsOwn (record o { seat = s; run = m; turn = turn; over = over })

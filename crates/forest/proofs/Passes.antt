@@ -6,19 +6,19 @@ use Rattle.arena.specs.Layout.{IsMap}
 use Rattle.arena.specs.Share.{whole_share}
 use Rattle.arena.proofs.Lemmas.{ends_self}
 use Rattle.prims.specs.declared.snap.Snap.{Snap}
-use Rattle.forest.specs.declared.memory.PassMemory.{PassMemory}
-use Rattle.forest.specs.declared.view.SeatedPass.{SeatedPass}
-use Rattle.forest.specs.declared.view.SeatView.{SeatView}
+use Rattle.tables.specs.declared.memory.PassMemory.{PassMemory}
+use Rattle.tables.specs.declared.view.SeatedPass.{SeatedPass}
+use Rattle.tables.specs.declared.view.SeatView.{SeatView}
 use Rattle.forest.specs.declared.pass.Pass.TheInside.{Inside}
-use Rattle.forest.specs.TableRule.{dealt_to, history_of}
-use Rattle.forest.specs.Traces.{IsSeated, Trace, HoldsForCall, known_of, planting_of, memory_of, run_at, rows_of, seat_steps}
-use Rattle.forest.specs.Shares.{HasFewNames, IsBetweenCalls}
-use Rattle.forest.specs.Passes.{PassView, Ground, IsOf, AreOfCall, CanUse, HasGoneOn, HasTakenNothing, IsLaterView, run_of}
+use Rattle.tables.specs.TableRule.{dealt_to, history_of}
+use Rattle.tables.specs.Traces.{IsSeated, Trace, HoldsForCall, known_of, planting_of, memory_of, run_at, rows_of, seat_steps}
+use Rattle.tables.specs.Shares.{HasFewNames, IsBetweenCalls}
+use Rattle.tables.specs.Passes.{PassView, Ground, IsOf, AreOfCall, CanUse, HasGoneOn, HasTakenNothing, IsLaterView, run_of}
 use Rattle.forest.specs.PassInvariant.{pass_view, layout_in, IsPass}
 use Rattle.prims.proofs.Lemmas.{upper_end, whole_untouched, none_taken, next_unwon, usable_since}
-use Rattle.forest.proofs.Frames.{CarriesOn}
-use Rattle.forest.proofs.Calls.{quiet_goes}
-use Rattle.forest.proofs.Advances.{call_back}
+use Rattle.tables.proofs.Frames.{CarriesOn}
+use Rattle.straight.proofs.AfterCalls.{quiet_goes}
+use Rattle.straight.proofs.Advances.{call_back}
 use Rattle.forest.proofs.Called.{own_start, course_calls, course_since}
 use Rattle.forest.proofs.Blames.{blamed_later}
 

@@ -8,33 +8,33 @@ use Rattle.histories.specs.Common.{Extends, History, IsOwnScx, IsRun, Lawful, La
 use Rattle.planting.specs.Plantings.{PlantingView}
 use Rattle.prims.specs.Moments.{AreFinished}
 use Rattle.slots.specs.Lasting.{Lasting}
-use Rattle.forest.specs.declared.rule.Site.{Site}
-use Rattle.forest.specs.declared.upkeep.keeper.Keeper.{Keeper}
-use Rattle.forest.specs.declared.upkeep.kept.Kept.{Kept}
-use Rattle.forest.specs.declared.view.SeatView.{SeatView}
-use Rattle.forest.specs.declared.view.SeatedPass.{SeatedPass}
-use Rattle.forest.specs.declared.words.Words.{Words}
-use Rattle.forest.specs.Passes.{Each, HoldsOfOwn, IsLaterView}
+use Rattle.tables.specs.declared.rule.Site.{Site}
+use Rattle.upkeep.specs.declared.keeper.Keeper.{Keeper}
+use Rattle.forest.specs.declared.kept.Kept.{Kept}
+use Rattle.tables.specs.declared.view.SeatView.{SeatView}
+use Rattle.tables.specs.declared.view.SeatedPass.{SeatedPass}
+use Rattle.tables.specs.declared.words.Words.{Words}
+use Rattle.tables.specs.Passes.{Each, HoldsOfOwn, IsLaterView}
 use Rattle.forest.specs.PassInvariant.{IsPassWith, seated_at, view_with}
 use Rattle.forest.specs.Rests.{HasOnlyRested}
-use Rattle.forest.specs.Shares.{EndsAsDealt, HasFewNames, IsBetweenCalls, entries_of}
-use Rattle.forest.specs.Slotted.{in_turns, names_of_table, slots_by, slots_of_table}
-use Rattle.forest.specs.TableRule.{dealt_to, history_of, past_of, seated_pass}
-use Rattle.forest.specs.Traces.{IsSeated, IsSeatedOrAway, known_of, memory_of, planting_of, rest_at, rows_of, run_at}
-use Rattle.forest.specs.UpkeepBook.{IsAtLasting, KnowsRest}
-use Rattle.forest.specs.Seats.{IsSameSeat}
-use Rattle.forest.specs.UpkeepDeals.{DealsOn, HasGoneOnDealing, HasShareLeft, IsOfNoCall}
+use Rattle.tables.specs.Shares.{EndsAsDealt, HasFewNames, IsBetweenCalls, entries_of}
+use Rattle.tables.specs.Slotted.{in_turns, names_of_table, slots_by, slots_of_table}
+use Rattle.tables.specs.TableRule.{dealt_to, history_of, past_of, seated_pass}
+use Rattle.tables.specs.Traces.{IsSeated, IsSeatedOrAway, known_of, memory_of, planting_of, rest_at, rows_of, run_at}
+use Rattle.upkeep.specs.UpkeepBook.{IsAtLasting, KnowsRest}
+use Rattle.tables.specs.Seats.{IsSameSeat}
+use Rattle.upkeep.specs.UpkeepDeals.{DealsOn, HasGoneOnDealing, HasShareLeft, IsOfNoCall}
 use Rattle.forest.specs.UpkeepKept.{ComesBack, HasComeBack, HasGoneAway, KeepsRight}
-use Rattle.forest.specs.UpkeepKeeper.{DealsNoMore, IsBetween, IsKeeper, IsSetNow, IsSetToCall}
-use Rattle.forest.specs.UpkeepSteps.{HasGoneOnResting, IsLastingTable, RestsOn}
-use Rattle.forest.proofs.Advances.{rows_by_others}
+use Rattle.upkeep.specs.UpkeepKeeper.{DealsNoMore, IsBetween, IsKeeper, IsSetNow, IsSetToCall}
+use Rattle.upkeep.specs.UpkeepSteps.{HasGoneOnResting, IsLastingTable, RestsOn}
+use Rattle.straight.proofs.Advances.{rows_by_others}
 use Rattle.forest.proofs.Blames.{blamed_later}
 use Rattle.forest.proofs.Called.{own_more, own_start}
 use Rattle.forest.proofs.Passes.{can_use_later}
-use Rattle.forest.proofs.UpkeepDeals.{resting_deals}
-use Rattle.forest.proofs.UpkeepSet.{ends_still, from_dealing, is_between, left_rested}
-use Rattle.forest.proofs.UpkeepTurn.{from_pass}
-use Rattle.forest.proofs.UpkeepSteps.{extends_known, passes_of_table}
+use Rattle.upkeep.proofs.UpkeepDeals.{resting_deals}
+use Rattle.upkeep.proofs.UpkeepSet.{ends_still, from_dealing, is_between, left_rested}
+use Rattle.upkeep.proofs.UpkeepTurn.{from_pass}
+use Rattle.upkeep.proofs.UpkeepSteps.{extends_known, passes_of_table}
 
 -- Before it rests
 

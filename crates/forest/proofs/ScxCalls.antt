@@ -13,23 +13,23 @@ use Rattle.prims.specs.declared.scx.ScxAt.TheVariants.{Start as ScxStart}
 use Rattle.prims.specs.declared.put.PutAt.TheVariants.{Start as PutStart}
 use Rattle.arena.specs.Share.{after_taking, IsFullOf}
 use Rattle.arena.specs.declared.fault.Resource.TheVariants.{Scx as ScxRecords}
-use Rattle.forest.specs.declared.memory.PassMemory.{PassMemory}
-use Rattle.forest.specs.declared.view.SeatView.{SeatView}
+use Rattle.tables.specs.declared.memory.PassMemory.{PassMemory}
+use Rattle.tables.specs.declared.view.SeatView.{SeatView}
 use Rattle.forest.specs.declared.pass.Pass.TheInside.{Inside}
-use Rattle.forest.specs.CallSteps.{AnyLeft, no_map_of_cells}
-use Rattle.forest.specs.TableRule.{history_of}
-use Rattle.forest.specs.Traces.{IsSeated, Trace, HoldsForCall, seat_steps, run_at}
-use Rattle.forest.specs.Shares.{HasFewNames, IsBetweenCalls, entries_of}
+use Rattle.tables.specs.CallSteps.{AnyLeft, no_map_of_cells}
+use Rattle.tables.specs.TableRule.{history_of}
+use Rattle.tables.specs.Traces.{IsSeated, Trace, HoldsForCall, seat_steps, run_at}
+use Rattle.tables.specs.Shares.{HasFewNames, IsBetweenCalls, entries_of}
 use Rattle.forest.specs.Puts.{IsPutOver}
-use Rattle.forest.specs.Passes.{PassView, AreOfCall, HasGoneOn, IsAllTaken, IsLaterView, CanUse, HasLeftAlone, Each, ScxSays, done_of, run_of, taken_of}
+use Rattle.tables.specs.Passes.{PassView, AreOfCall, HasGoneOn, IsAllTaken, IsLaterView, CanUse, HasLeftAlone, Each, ScxSays, done_of, run_of, taken_of}
 use Rattle.forest.specs.PassInvariant.{pass_view, layout_in, IsPass}
-use Rattle.forest.proofs.Frames.{CarriesOn}
-use Rattle.forest.proofs.Calls.{HasHand, course_keeps, put_goes, put_rests}
+use Rattle.tables.proofs.Frames.{CarriesOn}
+use Rattle.straight.proofs.AfterCalls.{HasHand, course_keeps, put_goes, put_rests}
 use Rattle.forest.proofs.Called.{course_calls, course_since}
 use Rattle.forest.proofs.Passes.{begun_with, call_of, can_use_later, steps_are}
 use Rattle.forest.proofs.Blames.{blamed_later}
 use Rattle.forest.proofs.VlxCalls.{each_at}
-use Rattle.forest.proofs.Advances.{call_back}
+use Rattle.straight.proofs.Advances.{call_back}
 
 -- Entries
 

@@ -21,17 +21,17 @@ use Rattle.dict.specs.Typed.{TypedAllows}
 use Rattle.dict.specs.Words.{IsWordOf}
 use Rattle.dict.specs.declared.dict.DictRun.{DictRun}
 use Rattle.forest.specs.declared.pass.Pass.TheInside.{Inside}
-use Rattle.forest.specs.declared.view.SeatView.{SeatView}
+use Rattle.tables.specs.declared.view.SeatView.{SeatView}
 use Rattle.forest.specs.Dictionary.{IsRefusalOf, blamed_by_reply}
-use Rattle.forest.specs.Passes.{HoldsOfOwn, PassView, run_of, taken_of}
+use Rattle.tables.specs.Passes.{HoldsOfOwn, PassView, run_of, taken_of}
 use Rattle.forest.specs.PassInvariant.{IsPass, pass_view, layout_in}
 use Rattle.forest.specs.StepKinds.{HasKeptToKinds}
-use Rattle.forest.specs.StraightCalls.{IsSameDictCall}
-use Rattle.forest.specs.declared.memory.PassMemory.{PassMemory}
-use Rattle.forest.specs.TableRule.{history_of}
-use Rattle.forest.specs.Traces.{HoldsForCall, Trace, known_of, planting_of, run_at, KnowsAs}
+use Rattle.straight.specs.StraightCalls.{IsSameDictCall}
+use Rattle.tables.specs.declared.memory.PassMemory.{PassMemory}
+use Rattle.tables.specs.TableRule.{history_of}
+use Rattle.tables.specs.Traces.{HoldsForCall, Trace, known_of, planting_of, run_at, KnowsAs}
 use Rattle.forest.proofs.Called.{course_holds, own_start}
-use Rattle.forest.proofs.Calls.{course_keeps}
+use Rattle.straight.proofs.AfterCalls.{course_keeps}
 use Rattle.forest.proofs.DictCalls.{Answered, IsSameCall, behind, dict_refuses}
 use Rattle.forest.proofs.Entered.{HasEnded}
 use Rattle.forest.proofs.Passes.{call_of}

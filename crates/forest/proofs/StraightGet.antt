@@ -26,19 +26,19 @@ use Rattle.dict.proofs.Lemmas.{get_ends, dict_ends, none_tried, once_past}
 use Rattle.order.specs.LastTurns.{no_turns}
 use Rattle.order.specs.declared.last_turns.LastTurns.{LastTurns}
 use Rattle.forest.specs.declared.pass.Pass.TheInside.{Inside}
-use Rattle.forest.specs.declared.view.SeatedPass.{SeatedPass}
-use Rattle.forest.specs.declared.view.SeatView.{SeatView}
-use Rattle.forest.specs.Passes.{taken_of}
+use Rattle.tables.specs.declared.view.SeatedPass.{SeatedPass}
+use Rattle.tables.specs.declared.view.SeatView.{SeatView}
+use Rattle.tables.specs.Passes.{taken_of}
 use Rattle.forest.specs.PassInvariant.{pass_view, layout_in, IsPass}
-use Rattle.forest.specs.StraightCalls.{IsSameDictCall}
+use Rattle.straight.specs.StraightCalls.{IsSameDictCall}
 use Rattle.forest.specs.StraightGet.{getting}
-use Rattle.forest.specs.StraightWalk.{Walker, WalkerWaits, WalkerFinds, WalksFromRoot}
-use Rattle.forest.specs.CallSteps.{HasDictLeft}
-use Rattle.forest.specs.Traces.{HoldsForCall, Trace}
+use Rattle.straight.specs.StraightWalk.{Walker, WalkerWaits, WalkerFinds, WalksFromRoot}
+use Rattle.tables.specs.CallSteps.{HasDictLeft}
+use Rattle.tables.specs.Traces.{HoldsForCall, Trace}
 use Rattle.forest.proofs.DictCalls.{Answered, dict_starts}
 use Rattle.forest.proofs.Passes.{call_of}
-use Rattle.forest.proofs.Places.{starts}
-use Rattle.forest.proofs.StraightCalls.{dict_calls}
+use Rattle.straight.proofs.Places.{starts}
+use Rattle.straight.proofs.StraightCalls.{dict_calls}
 
 module _ {K V : Type 0} (valid_key : K → Type 0) (key : K → ℕ) (valid_value : V → Type 0) (value_word : V → ℕ) where
   abbrev pub allows : Layout → History → ℕ → Type 0

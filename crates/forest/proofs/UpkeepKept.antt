@@ -1,13 +1,13 @@
 -- What a pass keeps stays right while it makes calls.
 use Rattle.std.proofs.Common.{◌≡◌, ◌∙◌, Bool, true, false, [], Option, Some, None, sym}
 use Rattle.histories.specs.Common.{Extends}
-use Rattle.forest.specs.Slotted.{in_turns}
-use Rattle.forest.specs.TableRule.{past_of}
-use Rattle.forest.specs.UpkeepKeeper.{StaysOut}
+use Rattle.tables.specs.Slotted.{in_turns}
+use Rattle.tables.specs.TableRule.{past_of}
+use Rattle.upkeep.specs.UpkeepKeeper.{StaysOut}
 use Rattle.forest.specs.UpkeepKept.{ComesBack, KeepsRight}
-use Rattle.forest.specs.declared.upkeep.kept.Kept.{Kept}
-use Rattle.forest.specs.declared.view.SeatedPass.{SeatedPass}
-use Rattle.forest.proofs.UpkeepKeeper.{keeper_stays}
+use Rattle.forest.specs.declared.kept.Kept.{Kept}
+use Rattle.tables.specs.declared.view.SeatedPass.{SeatedPass}
+use Rattle.upkeep.proofs.UpkeepKeeper.{keeper_stays}
 
 -- what never lasts keeps nothing
 pub never_kept : {A : Type 0} (lasts : Bool) → lasts ≡ false → lasts ≡ true → A

@@ -11,7 +11,7 @@ use Rattle.prims.specs.Shares.{share_end}
 use Rattle.dict.specs.Laws.OneShare.{one_share}
 use Rattle.dict.specs.Says.{HasMadeEdit, HasToldBy, HasTold, HasLost, HasRunOut}
 use Rattle.forest.specs.Dictionary.{IsChange, IsChangeOrReading, IsContendedCall, IsFullCall}
-use Rattle.forest.specs.Passes.{PassView, run_of, done_of, taken_of}
+use Rattle.tables.specs.Passes.{PassView, run_of, done_of, taken_of}
 use Rattle.forest.proofs.Entered.{none_entered, one_entered}
 use Rattle.forest.proofs.Took.{made_row, took_from, took_below, took_some}
 use Rattle.planting.specs.Plantings.{PlantingView}

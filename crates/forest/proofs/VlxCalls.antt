@@ -5,17 +5,17 @@ use Rattle.arena.specs.Layout.{IsMap}
 use Rattle.histories.specs.Common.{Layout, LoadInfo, Step, History, Records}
 use Rattle.template.specs.Common.{AreDistinct, IsAmong, snap_at, VlxAnswers, Snap, Vlx, Same, Changed, VlxRun}
 use Rattle.prims.proofs.Lemmas.{vlx_fills_not, all_over, vlx_ready_first}
-use Rattle.forest.specs.declared.view.SeatView.{SeatView}
+use Rattle.tables.specs.declared.view.SeatView.{SeatView}
 use Rattle.forest.specs.declared.pass.Pass.TheInside.{Inside}
-use Rattle.forest.specs.Traces.{run_at}
-use Rattle.forest.specs.StraightVlx.{vlx_at, AreSameSnaps, waits_over, SeatVlxBegins, SeatVlxEnds}
-use Rattle.forest.specs.Passes.{CanUse, Each, AreApart, HasNodeOf, HoldsOfOwn, VlxSays, run_of}
+use Rattle.tables.specs.Traces.{run_at}
+use Rattle.straight.specs.StraightVlx.{vlx_at, AreSameSnaps, waits_over, SeatVlxBegins, SeatVlxEnds}
+use Rattle.tables.specs.Passes.{CanUse, Each, AreApart, HasNodeOf, HoldsOfOwn, VlxSays, run_of}
 use Rattle.forest.specs.PassInvariant.{pass_view, layout_in, IsPass}
 use Rattle.forest.specs.StepKinds.{HasLoadedInfosAlone}
-use Rattle.forest.specs.CallSteps.{no_map_of_cells}
-use Rattle.forest.specs.TableRule.{history_of}
+use Rattle.tables.specs.CallSteps.{no_map_of_cells}
+use Rattle.tables.specs.TableRule.{history_of}
 use Rattle.forest.proofs.Called.{course_holds}
-use Rattle.forest.proofs.Calls.{course_keeps}
+use Rattle.straight.proofs.AfterCalls.{course_keeps}
 use Rattle.forest.proofs.Passes.{HasOnlyLoaded, begun_with, call_of, seated, called}
 
 -- Lists of snapshots

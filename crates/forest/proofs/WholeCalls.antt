@@ -12,16 +12,16 @@ use Rattle.dict.specs.DictKnown.{DictWaits}
 use Rattle.dict.specs.Typed.{TypedAllows}
 use Rattle.dict.specs.Words.{IsWordOf}
 use Rattle.forest.specs.declared.pass.Pass.TheInside.{Inside}
-use Rattle.forest.specs.declared.view.SeatView.{SeatView}
-use Rattle.forest.specs.CallSteps.{HasDictLeft}
-use Rattle.forest.specs.Shares.{EndsAsDealt}
-use Rattle.forest.specs.TableRule.{dealt_to}
+use Rattle.tables.specs.declared.view.SeatView.{SeatView}
+use Rattle.tables.specs.CallSteps.{HasDictLeft}
+use Rattle.tables.specs.Shares.{EndsAsDealt}
+use Rattle.tables.specs.TableRule.{dealt_to}
 use Rattle.forest.specs.Dictionary.{HasCalledIn, HasSpentAtMost, IsRefusalOf, IsToldOf, blamed_by_reply}
-use Rattle.forest.specs.Passes.{Ground, IsOf, PassView, taken_of}
+use Rattle.tables.specs.Passes.{Ground, IsOf, PassView, taken_of}
 use Rattle.forest.specs.PassInvariant.{IsPass, pass_view}
 use Rattle.forest.specs.StepKinds.{HasKeptToKinds}
-use Rattle.forest.specs.StraightCalls.{IsSameDictCall}
-use Rattle.forest.specs.Traces.{HoldsForCall, Trace, known_of, memory_of, seat_steps, shared_nodes, planting_of, KnowsAs}
+use Rattle.straight.specs.StraightCalls.{IsSameDictCall}
+use Rattle.tables.specs.Traces.{HoldsForCall, Trace, known_of, memory_of, seat_steps, shared_nodes, planting_of, KnowsAs}
 use Rattle.forest.proofs.DictCalls.{Answered, IsSameCall, behind, dict_ended, dict_goes_on, dict_pass, dict_refuses, dict_spends, dict_tells, so_behind}
 use Rattle.forest.proofs.Entered.{HasEnded, left_with}
 use Rattle.forest.proofs.Passes.{call_of}

@@ -3,8 +3,8 @@ use Rattle.histories.specs.Common.{History, Layout, Mode}
 use Rattle.std.specs.Prelude.{ℕ}
 use Rattle.forest.specs.declared.away.Away.TheInside.{Inside}
 use Rattle.forest.specs.PassInvariant.{IsPassWith, seated_at, view_with}
-use Rattle.forest.specs.Passes.{PassView}
-use Rattle.forest.specs.Traces.{IsSeatedOrAway, layout_at}
+use Rattle.tables.specs.Passes.{PassView}
+use Rattle.tables.specs.Traces.{IsSeatedOrAway, layout_at}
 use Rattle.forest.specs.UpkeepKept.{ComesBack}
 
 -- the layout of its names, as its first seat knew it

@@ -9,8 +9,8 @@ use Rattle.planting.specs.Orders.{FallsFirstAt}
 use Rattle.planting.specs.Plantings.{IsPlantingOf, fork_levels, opening_for}
 use Rattle.forest.specs.declared.fault.PairsFault.{PairsFault}
 use Rattle.forest.specs.declared.fault.PairsFault.TheVariants.{Limits as LimitsFault, Order, TooMany, NoMemory}
-use Rattle.forest.specs.declared.rule.Plot.{Plot}
-use Rattle.forest.specs.Passes.{Ground}
+use Rattle.tables.specs.declared.rule.Plot.{Plot}
+use Rattle.tables.specs.Passes.{Ground}
 
 -- the layout has these limits and is for this mode; nodes may be planted
 pub record HasLimits (limits : Limits) (mode : Mode) (lay : Layout) : Type 0 where

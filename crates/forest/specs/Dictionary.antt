@@ -13,9 +13,9 @@ use Rattle.forest.specs.declared.fault.OrderFault.{OrderFault}
 use Rattle.forest.specs.declared.fault.OrderFault.TheVariants as reads
 use Rattle.forest.specs.declared.fault.UpdateFault.{UpdateFault}
 use Rattle.forest.specs.declared.fault.UpdateFault.TheVariants as updates
-use Rattle.forest.specs.Passes.{Ground, HasGoneOn, IsOf, PassView, run_of, done_of, taken_of}
+use Rattle.tables.specs.Passes.{Ground, HasGoneOn, IsOf, PassView, run_of, done_of, taken_of}
 use Rattle.forest.specs.StepKinds.{HasKeptToKinds}
-use Rattle.forest.specs.Traces.{shared_nodes}
+use Rattle.tables.specs.Traces.{shared_nodes}
 
 -- The one history of a dictionary is the log of its run: each entry makes an edit of the map. A
 -- version is the map that the words spell at a moment of the run. By the laws of trees and tries

@@ -1,11 +1,11 @@
 -- Passes whose seats have been joined.
 use Rattle.std.specs.Prelude.{◌≡◌, ◌<◌, ◌⊎◌, ℕ, suc, List, [], ◌∷◌}
 use Rattle.histories.specs.Common.{Layout, History, Extends, log, IsRun}
-use Rattle.forest.specs.declared.view.SeatedPass.{SeatedPass}
-use Rattle.forest.specs.TableRule.{history_of, seated_pass}
-use Rattle.forest.specs.Traces.{rows_of}
-use Rattle.forest.specs.Shares.{IsBetweenCalls, entries_of}
-use Rattle.forest.specs.Passes.{PassView, HoldsOfOwn, IsLook, HasBlamed, run_of, done_of, steps_of}
+use Rattle.tables.specs.declared.view.SeatedPass.{SeatedPass}
+use Rattle.tables.specs.TableRule.{history_of, seated_pass}
+use Rattle.tables.specs.Traces.{rows_of}
+use Rattle.tables.specs.Shares.{IsBetweenCalls, entries_of}
+use Rattle.tables.specs.Passes.{PassView, HoldsOfOwn, IsLook, HasBlamed, run_of, done_of, steps_of}
 
 -- the pass p, one look at the table later: it has no entry more, and is between two calls
 pub record IsFrom (allows : Layout → History → ℕ → Type 0) (p : PassView) (k : SeatedPass) : Type 0 where

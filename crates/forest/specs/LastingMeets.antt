@@ -2,12 +2,12 @@
 use Rattle.std.specs.Prelude.{◌≡◌, ℕ, List, [], ◌∷◌}
 use Rattle.histories.specs.Common.{Layout, Row, History, IsRun}
 use Rattle.prims.specs.declared.snap.Snap.{Snap}
-use Rattle.forest.specs.Passes.{CanUse, HasTakenNothing, HoldsOfOwn, IsLaterView, PassView, run_of, steps_of}
-use Rattle.forest.specs.Shares.{IsBetweenCalls}
-use Rattle.forest.specs.TableRule.{Absent, Behind, history_of, plot_of, seated_pass}
-use Rattle.forest.specs.declared.rule.Plot.{Plot}
-use Rattle.forest.specs.declared.view.SeatView.{SeatView}
-use Rattle.forest.specs.declared.view.SeatedPass.{SeatedPass}
+use Rattle.tables.specs.Passes.{CanUse, HasTakenNothing, HoldsOfOwn, IsLaterView, PassView, run_of, steps_of}
+use Rattle.tables.specs.Shares.{IsBetweenCalls}
+use Rattle.tables.specs.TableRule.{Absent, Behind, history_of, plot_of, seated_pass}
+use Rattle.tables.specs.declared.rule.Plot.{Plot}
+use Rattle.tables.specs.declared.view.SeatView.{SeatView}
+use Rattle.tables.specs.declared.view.SeatedPass.{SeatedPass}
 
 -- the pass, when it knows these rows, and remembers what it did
 abbrev pub aware_of : List Row → SeatedPass → SeatedPass

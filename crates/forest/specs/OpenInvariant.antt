@@ -14,16 +14,16 @@ use Rattle.dict.specs.declared.shape.Dict.{Dict}
 use Rattle.prims.specs.Shares.{share_end}
 use Rattle.forest.specs.declared.open.OpenCall.TheInside.{Inside}
 use Rattle.forest.specs.declared.pass.Pass.TheInside as pass
-use Rattle.forest.specs.declared.room.Room.{Room}
-use Rattle.forest.specs.declared.view.SeatView.{SeatView}
-use Rattle.forest.specs.CallSteps.{HasDictLeft}
+use Rattle.straight.specs.declared.room.Room.{Room}
+use Rattle.tables.specs.declared.view.SeatView.{SeatView}
+use Rattle.tables.specs.CallSteps.{HasDictLeft}
 use Rattle.forest.specs.Opened.{OpenView}
-use Rattle.forest.specs.Passes.{PassView, run_of, steps_of, taken_of}
+use Rattle.tables.specs.Passes.{PassView, run_of, steps_of, taken_of}
 use Rattle.forest.specs.PassInvariant.{IsPass}
-use Rattle.forest.specs.StraightCalls.{IsSameDictCall}
-use Rattle.forest.specs.TableRule.{dealt_up_to, seated_pass}
+use Rattle.straight.specs.StraightCalls.{IsSameDictCall}
+use Rattle.tables.specs.TableRule.{dealt_up_to, seated_pass}
 use Rattle.forest.specs.UpkeepKept.{KeepsRight}
-use Rattle.forest.specs.Traces.{Stands, known_of, layout_at, memory_of, planting_of, seat_steps, shared_nodes, weight, KnowsAs}
+use Rattle.tables.specs.Traces.{Stands, known_of, layout_at, memory_of, planting_of, seat_steps, shared_nodes, weight, KnowsAs}
 
 -- what contracts see of a call that is held open
 abbrev pub open_view : {K V B : Type 0} → Inside K V B → OpenView

@@ -6,8 +6,8 @@ use Rattle.dict.specs.Calls.{AsksForPairs}
 use Rattle.forest.specs.declared.open.Stepped.{Stepped}
 use Rattle.forest.specs.declared.open.Stepped.TheVariants.{More, Done}
 use Rattle.planting.specs.Plantings.{PlantingView}
-use Rattle.forest.specs.Passes.{PassView, taken_of}
-use Rattle.forest.specs.TableRule.{ByOthers}
+use Rattle.tables.specs.Passes.{PassView, taken_of}
+use Rattle.tables.specs.Traces.{IsStepBehind}
 
 -- a call that is held open
 pub record OpenView : Type 0 where
@@ -28,17 +28,6 @@ pub record OpenView : Type 0 where
 -- the pass as the call began, with the run that it knows by now
 abbrev pub pass_now : OpenView → PassView
 pass_now o = record o.began { planting = o.planting; known = o.known }
-
--- A pass has made a step of this kind, in its call of this number: the newest row that it knows is
--- that of the step, and between that and what it knew before are rows of others alone.
-pub record IsStepBehind (old new : List Row) (pass number : ℕ) (kind : Kind) : Type 0 where
-  pub others : List Row
-  pub row : Row
-  pub is : new ≡ row ∷ (others ++ old)
-  pub by_others : ByOthers pass others
-  pub of_pass : row.pass.0 ≡ pass
-  pub of_call : row.call ≡ number
-  pub of_kind : row.kind ≡ kind
 
 -- the call has made a step of this kind
 abbrev pub HasMadeStep : OpenView → OpenView → Kind → Type 0

@@ -5,13 +5,13 @@ use Rattle.arena.specs.Layout.{IsMap, first_scx}
 use Rattle.arena.specs.Share.{Remaining}
 use Rattle.histories.specs.Common.{Mode, Layout, History, IsRun}
 use Rattle.forest.specs.declared.pass.Pass.TheInside.{Inside}
-use Rattle.forest.specs.declared.view.SeatedPass.{SeatedPass}
-use Rattle.forest.specs.declared.view.SeatView.{SeatView}
-use Rattle.forest.specs.TableRule.{seated_pass}
+use Rattle.tables.specs.declared.view.SeatedPass.{SeatedPass}
+use Rattle.tables.specs.declared.view.SeatView.{SeatView}
+use Rattle.tables.specs.TableRule.{seated_pass}
 use Rattle.forest.specs.UpkeepKept.{KeepsRight}
-use Rattle.forest.specs.Traces.{IsSeated, known_of, layout_at, memory_of, planting_of, run_at}
-use Rattle.forest.specs.Shares.{EndsAsDealt, HasFewNames, IsBetweenCalls}
-use Rattle.forest.specs.Passes.{PassView, HasBlamed}
+use Rattle.tables.specs.Traces.{IsSeated, known_of, layout_at, memory_of, planting_of, run_at}
+use Rattle.tables.specs.Shares.{EndsAsDealt, HasFewNames, IsBetweenCalls}
+use Rattle.tables.specs.Passes.{PassView, HasBlamed}
 
 -- what contracts see of a pass of this layout and number
 abbrev pub view_with : (lay : Layout) (number : ℕ) → Remaining → Seat ℕ SeatView → (blamed : List ℕ) → PassView

@@ -6,11 +6,11 @@ use Rattle.slots.specs.Lasting.{IsLasting, Lasting, table_place}
 use Rattle.touching.specs.Kinds.{IsInTree}
 use Rattle.forest.specs.Copies.{IsMapWord}
 use Rattle.forest.specs.JoinedSeats.{IsOneOf}
-use Rattle.forest.specs.Passes.{HasBlamed, HaveLeftShares, PassView, done_of, run_of, steps_of}
-use Rattle.forest.specs.Shares.{IsBetweenCalls, entries_of}
-use Rattle.forest.specs.TableRule.{history_of, seated_pass}
-use Rattle.forest.specs.Traces.{rows_of}
-use Rattle.forest.specs.declared.view.SeatedPass.{SeatedPass}
+use Rattle.tables.specs.Passes.{HasBlamed, HaveLeftShares, PassView, done_of, run_of, steps_of}
+use Rattle.tables.specs.Shares.{IsBetweenCalls, entries_of}
+use Rattle.tables.specs.TableRule.{history_of, seated_pass}
+use Rattle.tables.specs.Traces.{rows_of}
+use Rattle.tables.specs.declared.view.SeatedPass.{SeatedPass}
 
 -- the words at the end of a table whose records come back, and which slots its names have
 pub record SlotWords : Type 0 where

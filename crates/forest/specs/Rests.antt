@@ -2,8 +2,8 @@
 use Rattle.std.specs.Prelude.{◌≡◌, ℕ}
 use Rattle.histories.specs.Common.{Layout, History, IsRun}
 use Rattle.prims.specs.declared.snap.Snap.{Snap}
-use Rattle.forest.specs.Passes.{AreOfCall, CanUse, IsLaterView, PassView, done_of, run_of}
-use Rattle.forest.specs.Shares.{IsBetweenCalls}
+use Rattle.tables.specs.Passes.{AreOfCall, CanUse, IsLaterView, PassView, done_of, run_of}
+use Rattle.tables.specs.Shares.{IsBetweenCalls}
 
 -- The pass has rested, has gone away, or is back: it has made no call.
 pub record HasOnlyRested (allows : Layout → History → ℕ → Type 0) (old new : PassView) : Type 0 where

@@ -2,7 +2,7 @@
 use Rattle.std.specs.Prelude.{◌≡◌, ◌≢◌}
 use Rattle.arena.specs.declared.step.Kind.TheVariants.{Fill, LoadInfo}
 use Rattle.template.specs.Common.{call_rules, MapCall}
-use Rattle.forest.specs.Passes.{HoldsOfOwn, PassView, run_of}
+use Rattle.tables.specs.Passes.{HoldsOfOwn, PassView, run_of}
 
 -- the pass has made no other steps in this call: each own row after the run that it knew before is
 -- of a kind that the call may make

@@ -1,10 +1,10 @@
 -- When what a pass keeps, if it keeps something, is right, and lets it come back.
 use Rattle.std.specs.Prelude.{◌≡◌, false, Option, Some, None}
-use Rattle.forest.specs.Slotted.{in_turns}
-use Rattle.forest.specs.UpkeepBook.{KnowsRest}
-use Rattle.forest.specs.UpkeepKeeper.{DealsNoMore, IsKeeper}
-use Rattle.forest.specs.declared.upkeep.kept.Kept.{Kept}
-use Rattle.forest.specs.declared.view.SeatedPass.{SeatedPass}
+use Rattle.tables.specs.Slotted.{in_turns}
+use Rattle.upkeep.specs.UpkeepBook.{KnowsRest}
+use Rattle.upkeep.specs.UpkeepKeeper.{DealsNoMore, IsKeeper}
+use Rattle.forest.specs.declared.kept.Kept.{Kept}
+use Rattle.tables.specs.declared.view.SeatedPass.{SeatedPass}
 
 abbrev pub KeepsRight : Option Kept → SeatedPass → Type 0
 KeepsRight None p = Unit {0}

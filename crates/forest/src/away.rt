@@ -6,24 +6,20 @@ ghost use Rattle.ordered_map.specs.Runs.{IsMapRun};
 ghost use Rattle.dict.specs.Typed.{TypedAllows};
 ghost use Rattle.dict.specs.Words.{IsWordOf};
 ghost use Rattle.prims.specs.Moments.{AreFinished};
-ghost use Rattle.forest.specs.Passes.{IsOf, steps_of};
+ghost use Rattle.tables.specs.Passes.{IsOf, steps_of};
+ghost use Rattle.tables.specs.Seats.{IsSameSeat};
+ghost use Rattle.tables.specs.TableRule.{past_of};
+ghost use Rattle.tables.specs.declared.view.SeatedPass.{SeatedPass};
+ghost use Rattle.upkeep.specs.UpkeepBook.{IsAtLasting, KnowsRest};
+ghost use Rattle.upkeep.specs.UpkeepSteps.{RestsOn};
 ghost use Rattle.forest.specs.Rests.{HasOnlyRested};
-ghost use Rattle.forest.specs.Seats.{IsSameSeat};
-ghost use Rattle.forest.specs.TableRule.{past_of};
-ghost use Rattle.forest.specs.UpkeepBook.{IsAtLasting, KnowsRest};
 ghost use Rattle.forest.specs.UpkeepKept.{ComesBack, HasComeBack, HasGoneAway};
-ghost use Rattle.forest.specs.UpkeepSteps.{RestsOn};
-ghost use Rattle.forest.specs.declared.view.SeatedPass.{SeatedPass};
 
 use crate::blamed::Blamed;
 use crate::forest::Forest;
+use crate::kept::Kept;
 use crate::lasting::Lasts;
 use crate::pass::Pass;
-use crate::room::Room;
-use crate::table_shape::TableShape;
-use crate::upkeep::kept::Kept;
-use crate::view::SeatView;
-use crate::words::Words;
 use arena::{Layout, PassNo, ScxNo, Shape, Share};
 use atomic_table::Seat;
 use dict::{Dict, WordKey, WordValue};
@@ -31,6 +27,10 @@ use resting::unborn_stays_out;
 use std::fmt;
 use std::marker::{Model, PhantomData};
 use std::snapshot::Snapshot;
+use straight::room::Room;
+use tables::table_shape::TableShape;
+use tables::view::SeatView;
+use tables::words::Words;
 use template::FixedBalance;
 
 /// A pass that is away: no call can be made with it until it is back, and meanwhile no pass waits
@@ -50,7 +50,7 @@ pub struct Away<S: TableShape> {
 }
 
 impl<S: TableShape> Model for Away<S> {
-    ghost use Rattle.forest.specs.Passes.{PassView};
+    ghost use Rattle.tables.specs.Passes.{PassView};
 
     ghost Value = { PassView };
 

@@ -11,22 +11,22 @@ ghost use Rattle.ordered_map.specs.Spelled.{Spells};
 ghost use Rattle.dict.specs.Typed.{AreTyped, TypedAllows};
 ghost use Rattle.dict.specs.Words.{IsWordOf};
 ghost use Rattle.planting.specs.Plantings.{opening_for};
+ghost use Rattle.tables.specs.Passes.{AreNew, PassView, IsClosed};
+ghost use Rattle.tables.specs.TableRule.{history_of};
 ghost use Rattle.forest.specs.Beginnings.{BeginsWithPairs, HasLimits, IsPlotWith, IsRefusalOfPairs};
-ghost use Rattle.forest.specs.Passes.{AreNew, PassView, IsClosed};
-ghost use Rattle.forest.specs.TableRule.{history_of};
 
-use crate::balance::in_trie;
 use crate::close::Closed;
 use crate::fault::PairsFault;
+use crate::filled_once::FilledOnce;
 use crate::forest::Forest;
 use crate::pass::Pass;
-use crate::rule::Plot;
-use crate::table_shape::FilledOnce;
 use arena::{Layout, Limits, NoMemory};
 use dict::{Dict, WordKey, WordValue, number_of};
 use ordered_map::Pair;
 use planting::{MOST_NODES, Planting, first_fall, with_room};
 use std::alloc::Global;
+use straight::balance::in_trie;
+use tables::rule::Plot;
 use template::map_mode;
 
 impl<K: WordKey, V: WordValue, B: FilledOnce> Forest<Dict<K, V, B>> {

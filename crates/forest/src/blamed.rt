@@ -51,7 +51,7 @@ impl Blamed {
 }
 
 impl Blamed {
-    ghost use Rattle.forest.specs.Passes.{blamed_by};
+    ghost use Rattle.tables.specs.Passes.{blamed_by};
     ghost use Rattle.forest.specs.Dictionary.{blamed_by_reply};
 
     /// Takes in what an answer of `llx` blames.

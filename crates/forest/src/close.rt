@@ -11,19 +11,17 @@ ghost use Rattle.arena.specs.History.{value};
 ghost use Rattle.dict.specs.Typed.{TypedAllows};
 ghost use Rattle.dict.specs.Words.{IsValidPair, IsWordOf};
 ghost use Rattle.ordered_map.specs.Replies.{word_pair};
+ghost use Rattle.tables.specs.declared.view.SeatedPass.{SeatedPass};
+ghost use Rattle.tables.specs.Slotted.{names_of_table};
+ghost use Rattle.tables.specs.TablePlans.{IsTableOnce};
+ghost use Rattle.tables.specs.TableRule.{history_of};
+ghost use Rattle.tables.specs.Passes.{IsOn, IsOf, PassView, AreAllBack, IsClosed};
 ghost use Rattle.forest.specs.Copies.{AreCopied, map_word};
-ghost use Rattle.forest.specs.declared.view.SeatedPass.{SeatedPass};
-ghost use Rattle.forest.specs.Slotted.{names_of_table};
-ghost use Rattle.forest.specs.TablePlans.{IsTableOnce};
-ghost use Rattle.forest.specs.TableRule.{history_of};
-ghost use Rattle.forest.specs.Passes.{IsOn, IsOf, PassView, AreAllBack, IsClosed};
 ghost use Rattle.forest.specs.JoinedSeats.{IsFrom, AreIn};
 
+use crate::filled_once::TableOnce;
 use crate::forest::Forest;
 use crate::pass::Pass;
-use crate::table_shape::{Keeping, TableOnce};
-use crate::view::SeatView;
-use crate::words::Words;
 use arena::{
     Access, Kind, Layout, NoMemory, NodeNo, NodeWord, PlainWords, SettledPart, Shape, Side, Slot,
     Step, Word,
@@ -35,6 +33,9 @@ use prims::Cells;
 use std::alloc::Global;
 use std::fmt;
 use std::marker::{Model, PhantomData};
+use tables::table_shape::Keeping;
+use tables::view::SeatView;
+use tables::words::Words;
 
 /// The words of a forest that no thread shares any more.
 pub struct Closed<S: Shape> {

@@ -11,23 +11,24 @@ ghost use Rattle.ordered_map.specs.Requests.{AsksForFew, as_map_call};
 ghost use Rattle.dict.specs.Says.{KeepsLists};
 ghost use Rattle.dict.specs.Typed.{IsTypedCall};
 ghost use Rattle.dict.specs.Words.{IsWordOf};
+ghost use Rattle.tables.specs.Passes.{IsOf, AreNew};
 ghost use Rattle.forest.specs.Dictionary.{HasCalledIn, order_reply, update_reply};
-ghost use Rattle.forest.specs.Passes.{IsOf, AreNew};
 
-use crate::balance::in_trie;
 use crate::fault::{NewFault, OrderFault, UpdateFault};
+use crate::filled_once::FilledOnce;
 use crate::forest::Forest;
+use crate::kept::note_lost;
 use crate::pass::Pass;
-use crate::straight::hand::Hand;
-use crate::straight::{calls, walk};
-use crate::table_shape::{FilledOnce, Keeping};
-use crate::upkeep::kept::note_lost;
 use arena::{Limits, NoMemory, PassNo, Shape, Share};
 use dict::{Dict, DictRun, Reply, Request, WordKey, WordValue, number_of, value_of};
 use order::leaf_way;
 use resting::unborn_stays_out;
 use std::alloc::Global;
 use std::mem::replace;
+use straight::balance::in_trie;
+use straight::hand::Hand;
+use straight::{calls, walk};
+use tables::table_shape::Keeping;
 use template::{Goal, map_mode};
 use tree::{
     AtGreatest, AtKey, AtLeast, EditGoal, EditRule, GoalIn, KeyEdit, PutNewRule, PutRule, SwapRule,

@@ -10,22 +10,17 @@ ghost use Rattle.ordered_map.specs.Spelled.{Spells};
 ghost use Rattle.template.specs.Balance.{map_mode};
 ghost use Rattle.dict.specs.Typed.{TypedAllows};
 ghost use Rattle.dict.specs.Words.{IsValidPair, IsWordOf};
-ghost use Rattle.forest.specs.Passes.{IsOf, IsOn, PassView, AreAllBack};
+ghost use Rattle.tables.specs.Passes.{IsOf, IsOn, PassView, AreAllBack};
+ghost use Rattle.tables.specs.Seats.{IsSeatAt};
+ghost use Rattle.tables.specs.Slotted.{in_turns, names_of_table};
+ghost use Rattle.tables.specs.TableRule.{history_of};
+ghost use Rattle.tables.specs.declared.view.SeatedPass.{SeatedPass};
 ghost use Rattle.forest.specs.Remains.{AreNamedBySlots, AreRemains, AreSeated, IsSeatOf, SlotWords, by_slots, slot_value};
-ghost use Rattle.forest.specs.Seats.{IsSeatAt};
-ghost use Rattle.forest.specs.Slotted.{in_turns, names_of_table};
-ghost use Rattle.forest.specs.TableRule.{history_of};
-ghost use Rattle.forest.specs.declared.view.SeatedPass.{SeatedPass};
 
 use crate::close::{MAP_WORDS, map_word};
 use crate::forest::Forest;
 use crate::lasting::Lasts;
-use crate::lasting_sights::trees_last;
 use crate::pass::Pass;
-use crate::rule::{Turns, power_of_two};
-use crate::table_shape::TableShape;
-use crate::view::SeatView;
-use crate::words::Words;
 use arena::{Access, Kind, Layout, NoMemory, NodeNo, NodeWord, PlainWords, Shape, Step, Word};
 use atomic_table::Seat;
 use dict::{Dict, WordKey, WordValue, pairs_of};
@@ -33,7 +28,12 @@ use ordered_map::spelled;
 use std::alloc::Global;
 use std::fmt;
 use std::marker::{Model, PhantomData};
+use tables::rule::{Turns, power_of_two};
+use tables::table_shape::TableShape;
+use tables::view::SeatView;
+use tables::words::Words;
 use template::FixedBalance;
+use upkeep::lasting_sights::trees_last;
 
 /// The words of a forest whose records come back, that no thread shares any more.
 pub struct Remains<S: Shape> {

@@ -5,25 +5,25 @@ ghost use Rattle.planting.specs.Plantings.{PlantingView};
 ghost use Rattle.dict.specs.Typed.{TypedAllows};
 ghost use Rattle.dict.specs.Words.{IsWordOf};
 ghost use Rattle.slots.specs.Lasting.{Lasting};
+ghost use Rattle.tables.specs.LastingRule.{TableLasts};
+ghost use Rattle.tables.specs.Passes.{HaveLeftShares, IsOf, run_of};
+ghost use Rattle.tables.specs.Seats.{IsSameSeat, IsSeatAt};
+ghost use Rattle.tables.specs.declared.rule.Turns.{Turns};
+ghost use Rattle.tables.specs.declared.view.SeatView.{SeatView};
+ghost use Rattle.tables.specs.declared.view.SeatedPass.{SeatedPass};
 ghost use Rattle.forest.specs.LastingMeets.{AllLearn, HasOnlyLearnt, SharedRun, all_aware};
-ghost use Rattle.forest.specs.LastingRule.{TableLasts};
-ghost use Rattle.forest.specs.Passes.{HaveLeftShares, IsOf, run_of};
-ghost use Rattle.forest.specs.Seats.{IsSameSeat, IsSeatAt};
-ghost use Rattle.forest.specs.declared.rule.Turns.{Turns};
-ghost use Rattle.forest.specs.declared.view.SeatView.{SeatView};
-ghost use Rattle.forest.specs.declared.view.SeatedPass.{SeatedPass};
 
 use crate::forest::Forest;
 use crate::lasting::Lasts;
 use crate::pass::Pass;
-use crate::view::SeatView;
-use crate::words::Words;
 use arena::Shape;
 use atomic_table::Seat;
 use dict::{Dict, WordKey, WordValue};
 use resting::unborn_stays_out;
 use std::marker::Brand;
 use std::mem::replace;
+use tables::view::SeatView;
+use tables::words::Words;
 use template::FixedBalance;
 
 /// All passes of a seat come to know the run by a load of any word, and remember what they did. It

@@ -1,14 +1,14 @@
 //! How two passes come to know what both knew.
 ghost use Rattle.std.specs.Prelude.{◌≡◌, []};
-ghost use Rattle.forest.specs.Seats.{IsSeatAt};
-ghost use Rattle.forest.specs.TablePlans.{IsTableOnce};
-ghost use Rattle.forest.specs.TableRule.{Met, IsAlone};
+ghost use Rattle.tables.specs.Seats.{IsSeatAt};
+ghost use Rattle.tables.specs.TablePlans.{IsTableOnce};
+ghost use Rattle.tables.specs.TableRule.{Met, IsAlone};
 
-use crate::view::SeatView;
-use crate::words::Words;
 use arena::{Layout, Shape};
 use atomic_table::Seat;
 use std::mem::replace;
+use tables::view::SeatView;
+use tables::words::Words;
 
 /// Each of two passes looks at the table. Before that the first knows what both knew, with the
 /// other's look.

@@ -7,21 +7,15 @@ ghost use Rattle.template.specs.Balance.{nodes_by};
 ghost use Rattle.dict.specs.Typed.{TypedAllows};
 ghost use Rattle.dict.specs.Words.{IsWordOf};
 ghost use Rattle.ordered_map.specs.Requests.{AsksForFew, as_map_call};
+ghost use Rattle.tables.specs.Passes.{Ground, IsOf, run_of, steps_of};
+ghost use Rattle.tables.specs.Traces.{shared_nodes};
 ghost use Rattle.forest.specs.Dictionary.{HasCalledIn};
 ghost use Rattle.forest.specs.Opened.{HasStepped, IsSameOpen, pass_now};
-ghost use Rattle.forest.specs.Passes.{Ground, IsOf, run_of, steps_of};
-ghost use Rattle.forest.specs.Traces.{shared_nodes};
 
-use crate::balance::in_trie;
 use crate::blamed::Blamed;
 use crate::forest::Forest;
+use crate::kept::{Kept, note_lost};
 use crate::pass::Pass;
-use crate::room::Room;
-use crate::steps::advance;
-use crate::straight::hand::Hand;
-use crate::table_shape::Keeping;
-use crate::upkeep::kept::{Kept, note_lost};
-use crate::view::SeatView;
 use arena::{Kind, Machine, NodeNo, PassNo, ScxNo, Turn};
 use atomic_table::Seat;
 use dict::{Dict, DictRun, Reply, Request, WordKey, WordValue};
@@ -30,6 +24,12 @@ use std::alloc::Global;
 use std::fmt;
 use std::marker::{Model, PhantomData};
 use std::snapshot::Snapshot;
+use straight::balance::in_trie;
+use straight::hand::Hand;
+use straight::room::Room;
+use straight::steps::advance;
+use tables::table_shape::Keeping;
+use tables::view::SeatView;
 use template::ByOrder;
 
 /// What a step of a call leaves.

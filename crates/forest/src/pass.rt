@@ -5,27 +5,28 @@ ghost use Rattle.arena.specs.Share.{whole_share};
 ghost use Rattle.arena.specs.History.{Opened};
 ghost use Rattle.arena.specs.Machines.{IsRun};
 ghost use Rattle.planting.specs.Plantings.{opening_for};
-ghost use Rattle.forest.specs.LastingOpening.{first_memory};
-ghost use Rattle.forest.specs.LastingTables.{MayTakeTurns, first_share};
-ghost use Rattle.forest.specs.Slotted.{in_turns};
-ghost use Rattle.forest.specs.TableRule.{all_dealt, seated_pass};
-ghost use Rattle.forest.specs.Traces.{planting_of};
-ghost use Rattle.forest.specs.Passes.{PassView, taken_of};
-ghost use Rattle.forest.specs.Shares.{HasFewNames};
+ghost use Rattle.tables.specs.LastingOpening.{first_memory};
+ghost use Rattle.tables.specs.LastingTables.{MayTakeTurns, first_share};
+ghost use Rattle.tables.specs.Slotted.{in_turns};
+ghost use Rattle.tables.specs.TableRule.{all_dealt, seated_pass};
+ghost use Rattle.tables.specs.Traces.{planting_of};
+ghost use Rattle.tables.specs.Passes.{PassView, taken_of};
+ghost use Rattle.tables.specs.Shares.{HasFewNames};
 
 use crate::blamed::Blamed;
-use crate::room::Room;
-use crate::rule::Turns;
-use crate::table_shape::{TableOnce, TableShape};
-use crate::upkeep::keeper::Keeper;
-use crate::upkeep::kept::Kept;
-use crate::view::SeatView;
+use crate::filled_once::TableOnce;
+use crate::kept::Kept;
 use arena::{Layout, NoMemory, PassNo, ScxNo, Share};
 use atomic_table::Seat;
 use std::alloc::Global;
 use std::fmt;
 use std::marker::{Model, PhantomData};
 use std::snapshot::Snapshot;
+use straight::room::Room;
+use tables::rule::Turns;
+use tables::table_shape::TableShape;
+use tables::view::SeatView;
+use upkeep::keeper::Keeper;
 
 /// A part in a forest: a number, a share of the nodes and SCX-records, the run that it knows, whom
 /// its calls have blamed, and lists that its ordered reads fill. A thread has one, and gives it to
@@ -47,7 +48,7 @@ pub struct Pass<S: TableShape> {
 }
 
 impl<S: TableShape> Model for Pass<S> {
-    ghost use Rattle.forest.specs.Passes.{PassView, taken_of};
+    ghost use Rattle.tables.specs.Passes.{PassView, taken_of};
 
     ghost Value = { PassView };
 

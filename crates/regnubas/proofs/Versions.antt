@@ -12,9 +12,9 @@ use Rattle.ordered_map.proofs.Lemmas.{one_spelling}
 use Rattle.ordered_map.proofs.MapLemmas.{log_edits, spells_log}
 use Rattle.planting.specs.Plantings.{PlantingView, nothing_planted, opening_for}
 use Rattle.forest.specs.Dictionary.{IsChange}
-use Rattle.forest.specs.Passes.{PassView, IsLaterView, run_of}
-use Rattle.forest.specs.Shares.{entries_of}
-use Rattle.forest.specs.TableRule.{history_of}
+use Rattle.tables.specs.Passes.{PassView, IsLaterView, run_of}
+use Rattle.tables.specs.Shares.{entries_of}
+use Rattle.tables.specs.TableRule.{history_of}
 use Rattle.regnubas.specs.Versions.{EntersNothing}
 
 -- Entries of one pass among others

@@ -37,12 +37,12 @@ pub use Rattle.dict.specs.Words
 pub use Rattle.forest.specs.Beginnings
 pub use Rattle.forest.specs.Dictionary
 pub use Rattle.forest.specs.LastingMeets
-pub use Rattle.forest.specs.LastingTables
+pub use Rattle.tables.specs.LastingTables
 pub use Rattle.forest.specs.Opened
-pub use Rattle.forest.specs.Passes
+pub use Rattle.tables.specs.Passes
 pub use Rattle.forest.specs.Remains
 pub use Rattle.forest.specs.Rests
-pub use Rattle.forest.specs.Shares
+pub use Rattle.tables.specs.Shares
 pub use Rattle.forest.specs.StepKinds
-pub use Rattle.forest.specs.TableRule
-pub use Rattle.forest.specs.Traces
+pub use Rattle.tables.specs.TableRule
+pub use Rattle.tables.specs.Traces

@@ -9,9 +9,9 @@ use Rattle.ordered_map.specs.Runs.{IsMapRun, IsTreeRun, IsTrieRun, first_pairs}
 use Rattle.ordered_map.specs.Spelled.{Spells}
 use Rattle.planting.specs.Plantings.{PlantingView, nothing_planted, opening_for}
 use Rattle.forest.specs.Dictionary.{IsChange}
-use Rattle.forest.specs.Passes.{PassView, IsLaterView, run_of}
-use Rattle.forest.specs.Shares.{entries_of}
-use Rattle.forest.specs.TableRule.{history_of}
+use Rattle.tables.specs.Passes.{PassView, IsLaterView, run_of}
+use Rattle.tables.specs.Shares.{entries_of}
+use Rattle.tables.specs.TableRule.{history_of}
 
 -- from the one moment to the later one pass c has made no entry
 abbrev pub EntersNothing : Layout → ℕ → History → History → Type 0

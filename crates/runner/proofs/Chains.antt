@@ -3,7 +3,7 @@ use Rattle.std.proofs.Common.{◌≡◌, ◌∙◌, ℕ, ◌+◌, ◌<◌, true,
 use Rattle.arena.proofs.Lemmas.{ends_self, ends_trans}
 use Rattle.record.specs.Common.{MapCall, Reply, Call, Command, commands, map_call}
 use Rattle.record.proofs.Lemmas.{commands_next}
-use Rattle.forest.specs.Passes.{Ground, PassView, IsLaterView, run_of}
+use Rattle.tables.specs.Passes.{Ground, PassView, IsLaterView, run_of}
 use Rattle.runner.specs.Calls.{HasCalledNumbers, HaveReplies}
 
 -- what was known later, of what was known later, is known later

@@ -12,9 +12,9 @@ use Rattle.arena.proofs.Lemmas.{ends_self}
 use Rattle.dict.specs.Laws.TypedMaps.{typed_run}
 use Rattle.template.specs.Balance.{map_mode}
 use Rattle.planting.specs.Plantings.{PlantingView, nothing_planted}
-use Rattle.forest.specs.TableRule.{history_of}
-use Rattle.forest.specs.Passes.{Ground, PassView, AreNew, AreBegun, HoldsOfOwn, IsClosed, IsLook, new_pass, run_of, done_of}
-use Rattle.forest.specs.Shares.{entries_of}
+use Rattle.tables.specs.TableRule.{history_of}
+use Rattle.tables.specs.Passes.{Ground, PassView, AreNew, AreBegun, HoldsOfOwn, IsClosed, IsLook, new_pass, run_of, done_of}
+use Rattle.tables.specs.Shares.{entries_of}
 use Rattle.dict.specs.Words.{IsNumber, IsWideNumber}
 use Rattle.runner.specs.Calls.{NumbersAllow, HasCalledNumbers, HaveReplies, HaveWorked}
 use Rattle.runner.specs.Histories.{AreVersions}

@@ -3,7 +3,7 @@ use Rattle.std.proofs.Common.{◌≡◌, ◌∙◌, ℕ, zero, suc, ◌<◌, Lis
 use Rattle.std.specs.List.{All}
 use Rattle.std.proofs.lemmas.List.Elements.{All-nil, All-cons, All-head, All-tail}
 use Rattle.record.specs.Common.{Reply, Call}
-use Rattle.forest.specs.Passes.{Ground, PassView, IsOf, AreNew, AreAllBack, HasPass, new_pass}
+use Rattle.tables.specs.Passes.{Ground, PassView, IsOf, AreNew, AreAllBack, HasPass, new_pass}
 use Rattle.runner.specs.Calls.{HasWorked, HaveWorked}
 
 -- values that there are

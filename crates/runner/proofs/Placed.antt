@@ -9,7 +9,7 @@ use Rattle.ordered_map.specs.declared.reply.Reply.TheVariants as replies
 use Rattle.edits.specs.Tries.{HasOnlyLooked}
 use Rattle.dict.specs.Says.{HasMadeRow}
 use Rattle.forest.specs.Dictionary.{IsVersion, IsChange, IsChangeOrReading, IsReading, IsRefusalOf, IsToldOf}
-use Rattle.forest.specs.Passes.{Ground, PassView, run_of}
+use Rattle.tables.specs.Passes.{Ground, PassView, run_of}
 use Rattle.runner.specs.Calls.{HasCalledNumbers, HaveReplies}
 use Rattle.runner.specs.Histories.{AreVersions, IsEnteredCall, IsReadCall, IsPlacedAs, IsPlacedInRun, IsAnswered}
 use Rattle.runner.proofs.Chains.{replies_later}

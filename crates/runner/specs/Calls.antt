@@ -6,7 +6,7 @@ use Rattle.record.specs.Common.{MapCall, Reply, Call, Command, commands, map_cal
 use Rattle.dict.specs.Typed.{TypedAllows}
 use Rattle.dict.specs.Words.{IsNumber, IsWideNumber}
 use Rattle.forest.specs.Dictionary.{HasCalledIn}
-use Rattle.forest.specs.Passes.{Ground, PassView, IsOf}
+use Rattle.tables.specs.Passes.{Ground, PassView, IsOf}
 
 -- the shape of a dictionary of numbers: each SCX-record that begins makes an edit of numbers
 abbrev pub NumbersAllow : Layout → History → ℕ → Type 0

@@ -6,7 +6,7 @@ use Rattle.dict.specs.Calls.{AsksForPairs}
 use Rattle.template.specs.Common.{most_nodes, told_of}
 use Rattle.edits.specs.Tries.{HasOnlyLooked}
 use Rattle.dict.specs.Says.{HasMadeRow}
-use Rattle.forest.specs.Passes.{Ground, PassView, run_of, done_of, taken_of}
+use Rattle.tables.specs.Passes.{Ground, PassView, run_of, done_of, taken_of}
 use Rattle.runner.specs.Calls.{HasCalledNumbers}
 
 -- The history is the log of the run, and each moment of the run has a map, its version, which the

@@ -5,8 +5,8 @@ use Rattle.histories.specs.Common.{History, Extends, log, IsRun}
 use Rattle.arena.specs.Limits.{IsLayoutOf}
 use Rattle.record.specs.Common.{IsRising, Pair, word_pair, Reply, Command, Script, commands}
 use Rattle.planting.specs.Plantings.{nothing_planted}
-use Rattle.forest.specs.Passes.{Ground, PassView, HaveLeftShares, HoldsOfOwn, IsLook, new_pass, run_of, done_of}
-use Rattle.forest.specs.Shares.{entries_of}
+use Rattle.tables.specs.Passes.{Ground, PassView, HaveLeftShares, HoldsOfOwn, IsLook, new_pass, run_of, done_of}
+use Rattle.tables.specs.Shares.{entries_of}
 use Rattle.runner.specs.Calls.{NumbersAllow, HaveReplies}
 use Rattle.runner.specs.Histories.{AreVersions, IsAnswered}
 

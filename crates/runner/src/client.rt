@@ -4,7 +4,7 @@ ghost use Rattle.std.specs.List.{All};
 ghost use Rattle.ordered_map.specs.Requests.{AsksForFew, map_request};
 ghost use Rattle.script.specs.Commands.{asks_map};
 ghost use Rattle.forest.specs.Opened.{IsSameOpen};
-ghost use Rattle.forest.specs.Passes.{IsOf};
+ghost use Rattle.tables.specs.Passes.{IsOf};
 ghost use Rattle.runner.specs.Calls.{HasCalledNumbers, HasWorked};
 
 use crate::gate::Gate;

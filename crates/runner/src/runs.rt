@@ -4,7 +4,7 @@ ghost use Rattle.std.specs.List.{All};
 ghost use Rattle.arena.specs.Layout.{IsMap};
 ghost use Rattle.template.specs.Balance.{map_mode};
 ghost use Rattle.script.specs.Commands.{asks_map};
-ghost use Rattle.forest.specs.Passes.{IsOf};
+ghost use Rattle.tables.specs.Passes.{IsOf};
 ghost use Rattle.runner.specs.Calls.{HaveWorked};
 ghost use Rattle.runner.specs.Outcomes.{IsOutcome};
 

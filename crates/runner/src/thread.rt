@@ -3,7 +3,7 @@ ghost use Rattle.std.specs.Prelude.{◌≡◌, true, IsTrue, IfOk, List, [], ◌
 ghost use Rattle.std.specs.List.{All};
 ghost use Rattle.script.specs.Commands.{asks_map};
 ghost use Rattle.script.specs.declared.call.Call.{Call};
-ghost use Rattle.forest.specs.Passes.{Ground, IsOf, PassView};
+ghost use Rattle.tables.specs.Passes.{Ground, IsOf, PassView};
 ghost use Rattle.runner.specs.Calls.{HasWorked, HaveWorked};
 
 use crate::client::{Numbers, Worked, make_calls};

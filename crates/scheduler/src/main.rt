@@ -1,4 +1,5 @@
 //! A scheduler: three threads take the job that is due first out of a queue, and no two the same.
+//! It goes on without end: what its passes have used up comes back as they rest.
 #![tactic(auto)]
 
 mod due;
@@ -9,39 +10,51 @@ ghost use Rattle.regnubas.specs.Passes.{IsOf};
 
 use anyhow::Result;
 use due::Due;
-use regnubas::{Forest, Limits, Pass, Trie, UpdateFault};
+use regnubas::{ByOrder, Dict, Forest, Lasts, Limits, Pass, UpdateFault};
 use std::alloc::{AllocError, Global};
 use std::sync::atomic::{AtomicU64, Ordering};
-use std::thread::{Threads, map_vec};
+use std::thread::{Threads, map_vec, yield_now};
 
 /// From when a job is due to how often it is still to run.
-type Queue = Trie<Due, u32>;
+type Queue = Dict<Due, u32, Lasts<ByOrder>>;
 
-/// A pass for each thread. A job that is put in takes three nodes at most, one that is taken out
-/// another.
+/// A pass for each thread, with what it may have in use at a time.
 const LIMITS: Limits = Limits {
     passes: 3,
-    nodes: 1000,
-    scx: 300,
-    tries: 100,
+    nodes: 64,
+    scx: 64,
+    tries: 1,
 };
 
 /// When each job is due first, and how often it is to run.
-const JOBS: [(u32, u32); 5] = [(30, 1), (10, 6), (20, 4), (10, 12), (15, 2)];
+const JOBS: [(u32, u32); 5] = [(30, 1), (10, 6000), (20, 4000), (10, 12_000), (15, 2000)];
 
 /// How long after a run a job is due again.
 const PERIOD: u32 = 10;
 
-/// Puts a job in. Answers whether the share of this pass has had room for it.
+/// After how many jobs a pass rests.
+const OFTEN: u32 = 8;
+
+/// The pass rests, and lets another thread go on if it waits for one.
+fn rest(queue: &Forest<Queue>, pass: &mut Pass<Queue>)
+    requires { IsOf queue.now pass.old }
+    ensures { IsOf queue.now pass.new }
+{
+    if queue.rest(pass).is_some() {
+        yield_now();
+    }
+}
+
+/// Puts a job in. If the share is used up the pass rests first. Answers whether the job is in.
 fn put(queue: &Forest<Queue>, pass: &mut Pass<Queue>, due: Due, times: u32) -> bool
     requires { IsOf queue.now pass.old }
     ensures { IsOf queue.now pass.new }
 {
-    for _ask in 0..1000 {
+    for _ask in 0..10_000_000 {
         match queue.insert(pass, due, times) {
             Ok(_old) => return true,
             Err(UpdateFault::Contended { .. }) => {}
-            Err(UpdateFault::Full(_)) => return false,
+            Err(UpdateFault::Full(_)) => rest(queue, pass),
         }
     }
     false
@@ -86,34 +99,37 @@ fn run(queue: &Forest<Queue>, pass: &mut Pass<Queue>, runs: &[AtomicU64], due: D
     }
 }
 
-/// What a thread does with its pass: it takes jobs out and runs them until there is none. A job
-/// that another thread is running may be put in again after that, and then that thread takes it.
-fn work(queue: &Forest<Queue>, mut pass: Pass<Queue>, runs: &[AtomicU64]) -> Pass<Queue>
+/// What a thread does with its pass: it takes jobs out and runs them until there is none, and leaves
+/// for ever. A job that another thread is running may be put in again after that, and then that
+/// thread takes it.
+fn work(queue: &Forest<Queue>, mut pass: Pass<Queue>, runs: &[AtomicU64])
     requires { IsOf queue.now pass }
-    ensures { IsOf queue.now result }
 {
-    for _turn in 0..10_000 {
+    for turn in 0..100_000_000 {
         match queue.pop_first(&mut pass) {
             Ok(Some((due, times))) => run(queue, &mut pass, runs, due, times),
-            Ok(None) => return pass,
+            Ok(None) => break,
             Err(UpdateFault::Contended { .. }) => {}
-            Err(UpdateFault::Full(_)) => return pass,
+            Err(UpdateFault::Full(_)) => rest(queue, &mut pass),
+        }
+        if turn % OFTEN == 0 {
+            rest(queue, &mut pass);
         }
     }
-    pass
+    drop(queue.away(pass));
 }
 
-/// All threads work, and return their passes.
+/// All threads work.
 fn work_all<R: Threads + Sync>(
     rt: &R,
     queue: &Forest<Queue>,
     passes: Vec<Pass<Queue>>,
     runs: &[AtomicU64],
-) -> Result<Vec<Pass<Queue>>, AllocError>
+) -> Result<(), AllocError>
     requires { All (IsOf queue.now) passes.items }
-    ensures { IfOk result (λ ps. All (IsOf queue.now) ps.items) }
 {
-    map_vec(rt, passes, &|pass| work(queue, pass, runs))
+    map_vec(rt, passes, &|pass| work(queue, pass, runs))?;
+    Ok(())
 }
 
 /// How often each job has run.
@@ -122,7 +138,7 @@ fn counts<R: Threads + Sync>(rt: &R, alloc: Global) -> Result<Vec<AtomicU64>> {
     for _job in JOBS {
         runs.push(AtomicU64::new(0))?;
     }
-    let (queue, passes) = Forest::<Queue>::new(alloc, LIMITS)?;
+    let (queue, passes) = Forest::<Queue>::lasting(alloc, LIMITS)?;
     let passes = filled(&queue, passes)?;
     work_all(rt, &queue, passes, &runs)?;
     Ok(runs)

@@ -1,5 +1,5 @@
-//! Stock that turns over without end: four threads make 100,000 changes each, though a pass has
-//! 64 nodes and 64 SCX-records. What came out is what went in.
+//! Stock that turns over without end: four threads make a million changes each, though a pass
+//! has 64 nodes and 64 SCX-records. What came out is what went in.
 #![tactic(auto)]
 
 ghost use Rattle.std.specs.List.{All};
@@ -22,7 +22,7 @@ const LIMITS: Limits = Limits {
 };
 
 /// How many changes each thread makes.
-const CHANGES: u64 = 100_000;
+const CHANGES: u64 = 1_000_000;
 
 /// After how many changes a pass rests.
 const OFTEN: u64 = 8;

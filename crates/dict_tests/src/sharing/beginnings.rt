@@ -1,6 +1,6 @@
 //! Large dictionaries that begin with pairs.
 ghost use Rattle.std.specs.Prelude.{◌≡◌, IfOk};
-ghost use Rattle.forest.specs.Passes.{AreNew, IsOf};
+ghost use Rattle.tables.specs.Passes.{AreNew, IsOf};
 
 use super::TRIES;
 use super::call::Call::{Get, Insert};

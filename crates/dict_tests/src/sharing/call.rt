@@ -1,7 +1,7 @@
 //! The calls of a dictionary. What a call says of steps and runs is long, and a body with many
 //! calls is proved over all of it: so each is made in one place, and tests have rows of calls.
 ghost use Rattle.ordered_map.specs.Requests.{AsksForFew};
-ghost use Rattle.forest.specs.Passes.{IsOf};
+ghost use Rattle.tables.specs.Passes.{IsOf};
 
 use dict::{Dict, Reply, Request, WordKey, WordValue};
 use forest::{FilledOnce, Forest, OrderFault, Pass, UpdateFault};

@@ -1,6 +1,6 @@
 //! Calls that are held open, while the other pass makes calls.
 ghost use Rattle.std.specs.Prelude.{◌≡◌, true, false, IfOk};
-ghost use Rattle.forest.specs.Passes.{IsOf};
+ghost use Rattle.tables.specs.Passes.{IsOf};
 
 use super::call::Call;
 use super::call::Call::{

@@ -2,7 +2,7 @@
 //! `crates/cases/data/stories/refused_growths/check_tests` refuses each in turn.
 ghost use Rattle.std.specs.Prelude.{IfOk};
 ghost use Rattle.std.specs.List.{All};
-ghost use Rattle.forest.specs.Passes.{AreNew, IsOf};
+ghost use Rattle.tables.specs.Passes.{AreNew, IsOf};
 
 use super::beginnings::{Opened, alone};
 use super::call::Call::{self, Insert, Predecessor, Range, Successor};

@@ -1,7 +1,7 @@
 //! Dictionaries that begin with what another was left with, again and again.
 ghost use Rattle.std.specs.Prelude.{◌≡◌, IfOk};
 ghost use Rattle.std.specs.List.{All};
-ghost use Rattle.forest.specs.Passes.{IsOf};
+ghost use Rattle.tables.specs.Passes.{IsOf};
 
 use super::beginnings::Opened;
 use super::call::Call::{self, Delete, Insert, InsertNew, PopFirst, PopLast, Successor};

@@ -1,5 +1,5 @@
 //! Rows of tables: calls, and what is to come of them.
-ghost use Rattle.forest.specs.Passes.{IsOf};
+ghost use Rattle.tables.specs.Passes.{IsOf};
 
 use super::call::Call;
 use dict::{Dict, Reply, WordKey, WordValue};

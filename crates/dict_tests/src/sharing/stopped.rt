@@ -1,6 +1,6 @@
 //! Calls that stop after each of their steps in turn, while the other pass makes one of its own.
 ghost use Rattle.std.specs.Prelude.{◌≡◌, false, IfOk};
-ghost use Rattle.forest.specs.Passes.{IsOf};
+ghost use Rattle.tables.specs.Passes.{IsOf};
 
 use super::call::Call::{Delete, DeleteIf, Insert, InsertNew, PopFirst, PopLast, Range, ReplaceIf};
 use super::call::{Call, pairs_told};

@@ -1,7 +1,7 @@
 //! Threads that change one dictionary.
 ghost use Rattle.std.specs.Prelude.{◌≡◌, IfOk};
 ghost use Rattle.std.specs.List.{All};
-ghost use Rattle.forest.specs.Passes.{IsOf};
+ghost use Rattle.tables.specs.Passes.{IsOf};
 
 use super::call::Call::{
     self, Delete, DeleteIf, Get, Insert, InsertNew, PopFirst, PopLast, Predecessor, Range,

@@ -1,6 +1,6 @@
 //! A pass at work on a dictionary of numbers that it shares.
 ghost use Rattle.std.specs.Prelude.{◌≡◌};
-ghost use Rattle.forest.specs.Passes.{IsOf};
+ghost use Rattle.tables.specs.Passes.{IsOf};
 
 use super::call::Call::{self, Delete, DeleteIf, Insert, InsertNew, PopFirst, PopLast, ReplaceIf};
 use super::held::Numbers;

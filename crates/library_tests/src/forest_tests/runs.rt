@@ -1,6 +1,6 @@
 //! Worked runs.
 ghost use Rattle.std.specs.Prelude.{◌≡◌, IfOk, IfSome};
-ghost use Rattle.forest.specs.Passes.{IsOf};
+ghost use Rattle.tables.specs.Passes.{IsOf};
 
 use super::{end, fields, limits, put};
 use crate::same::same;

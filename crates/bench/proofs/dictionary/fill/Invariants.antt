@@ -1,4 +1,4 @@
-use Rattle.forest.specs.Passes.{IsOf}
+use Rattle.tables.specs.Passes.{IsOf}
 use Rattle.bench.proofs.dictionary.fill.Given as goal
 
 abbrev pub invariant-loop-draw : goal.invariant-loop-draw

@@ -1,6 +1,6 @@
 use Rattle.std.proofs.Common.{ℕ, sym, [], ◌∷◌, ◌++◌}
 use Rattle.std.proofs.lemmas.List.Elements.{All-head, All-rest, All-same, All-push}
-use Rattle.forest.specs.Passes.{PassView, IsOf}
+use Rattle.tables.specs.Passes.{PassView, IsOf}
 use Rattle.bench.proofs.repetition.numbered.Goals as goal
 
 pub loop-pass-preserved : goal.loop-pass-preserved

@@ -1,5 +1,5 @@
 use Rattle.std.specs.List.{All}
-use Rattle.forest.specs.Passes.{IsOf}
+use Rattle.tables.specs.Passes.{IsOf}
 use Rattle.bench.proofs.repetition.numbered.Given as goal
 
 abbrev pub invariant-loop-pass : goal.invariant-loop-pass

@@ -1,5 +1,5 @@
 use Rattle.std.proofs.Common.{◌≡◌}
-use Rattle.forest.specs.Passes.{IsOf}
+use Rattle.tables.specs.Passes.{IsOf}
 use Rattle.bench.specs.Tally.{total}
 use Rattle.bench.proofs.round.rounds.Given as goal
 

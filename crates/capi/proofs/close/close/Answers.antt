@@ -7,8 +7,8 @@ use Rattle.dict.specs.Typed.{TypedAllows}
 use Rattle.dict.specs.Words.{IsNumber, IsWideNumber}
 use Rattle.ordered_map.specs.Replies.{word_pair}
 use Rattle.ordered_map.specs.Spelled.{Spells}
-use Rattle.forest.specs.Passes.{Ground, PassView, IsOf, IsClosed}
-use Rattle.forest.specs.TableRule.{history_of}
+use Rattle.tables.specs.Passes.{Ground, PassView, IsOf, IsClosed}
+use Rattle.tables.specs.TableRule.{history_of}
 use Rattle.capi.specs.Left.{AreLeft}
 use Rattle.capi.proofs.close.close.Goals as goal
 

@@ -1,5 +1,5 @@
 use Rattle.std.proofs.Common.{◌≡◌, ◌<◌, length, All, IsSome, MatchOption, take}
-use Rattle.forest.specs.Passes.{Ground}
+use Rattle.tables.specs.Passes.{Ground}
 use Rattle.capi.specs.Ends.{IsIn, held_in}
 use Rattle.capi.specs.Made.{IsHeldOf}
 use Rattle.capi.proofs.end.all_of.Given as goal

@@ -1,5 +1,5 @@
 use Rattle.std.proofs.Common.{All, sym, ◌∙◌, subst}
-use Rattle.forest.specs.Passes.{Ground, IsOf}
+use Rattle.tables.specs.Passes.{Ground, IsOf}
 use Rattle.capi.specs.Ends.{held_in}
 use Rattle.capi.proofs.Ends.{all_are_of, in_some}
 use Rattle.capi.proofs.end.gather_trie.Goals as goal

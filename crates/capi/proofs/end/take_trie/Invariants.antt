@@ -1,6 +1,6 @@
 use Rattle.std.proofs.Common.{◌≡◌, All, IfSome, Some, map}
 use Rattle.std.specs.Arc.{arc_value}
-use Rattle.forest.specs.Passes.{Ground}
+use Rattle.tables.specs.Passes.{Ground}
 use Rattle.capi.specs.Ends.{IsIn, held_in, pass_in}
 use Rattle.capi.proofs.end.take_trie.Given as goal
 

@@ -1,5 +1,5 @@
 use Rattle.std.proofs.Common.{◌≡◌, ◌+◌, ◌∷◌, [], ◌++◌, arith, length, length-append, subst}
-use Rattle.forest.specs.Passes.{Ground}
+use Rattle.tables.specs.Passes.{Ground}
 use Rattle.capi.specs.Made.{IsHeldOf}
 use Rattle.capi.proofs.Made.{all_held_of, next_held}
 use Rattle.capi.proofs.open.hand_out_tree.Goals as goal

@@ -2,7 +2,7 @@ use Rattle.std.proofs.Common.{◌<◌, All, Option, Some, None, arith, ap, lengt
 use Rattle.std.specs.Arc.{arc_value}
 use Rattle.std.proofs.lemmas.List.{map-set}
 use Rattle.std.proofs.lemmas.List.Elements.{All-set}
-use Rattle.forest.specs.Passes.{Ground}
+use Rattle.tables.specs.Passes.{Ground}
 use Rattle.capi.specs.declared.client.OwnedPass.{OwnedPass}
 use Rattle.capi.specs.declared.handle.HandleSlot.{HandleSlot}
 use Rattle.capi.specs.Answers.{CallSays}

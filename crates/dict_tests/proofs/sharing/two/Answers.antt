@@ -1,7 +1,7 @@
 use Rattle.std.proofs.Common.{Some}
 use Rattle.std.specs.List.{All}
 use Rattle.std.proofs.lemmas.List.Elements.{All-pop}
-use Rattle.forest.specs.Passes.{IsOf}
+use Rattle.tables.specs.Passes.{IsOf}
 use Rattle.forest.proofs.Crowds.{new_are_of}
 use Rattle.dict_tests.proofs.sharing.two.Given.{Over}
 use Rattle.dict_tests.proofs.sharing.two.Goals as goal

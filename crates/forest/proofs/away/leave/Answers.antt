@@ -1,12 +1,12 @@
 use Rattle.std.proofs.Common.{subst, sym}
-use Rattle.forest.specs.Slotted.{in_turns}
-use Rattle.forest.specs.UpkeepKeeper.{KeepsStill}
+use Rattle.tables.specs.Slotted.{in_turns}
+use Rattle.upkeep.specs.UpkeepKeeper.{KeepsStill}
 use Rattle.forest.specs.UpkeepKept.{ComesBack, HasGoneAway}
-use Rattle.forest.proofs.UpkeepKeeper.{deals_same, seat_of}
-use Rattle.forest.proofs.UpkeepDeals.{resting_deals}
-use Rattle.forest.proofs.UpkeepSet.{own_pass}
-use Rattle.forest.proofs.UpkeepStays.{map_then, stays_out}
-use Rattle.forest.proofs.UpkeepSteps.{seat_still}
+use Rattle.upkeep.proofs.UpkeepKeeper.{deals_same, seat_of}
+use Rattle.upkeep.proofs.UpkeepDeals.{resting_deals}
+use Rattle.upkeep.proofs.UpkeepSet.{own_pass}
+use Rattle.upkeep.proofs.UpkeepStays.{map_then, stays_out}
+use Rattle.upkeep.proofs.UpkeepSteps.{seat_still}
 use Rattle.forest.proofs.away.leave.Goals as goal
 
 pub returns-in_default-clause-left : goal.returns-in_default-clause-left

@@ -1,7 +1,7 @@
 use Rattle.std.proofs.Common.{List, Some, [], ◌∷◌, ◌++◌, inl, refl, sym, ◌∙◌, ap, subst, append_assoc}
 use Rattle.std.proofs.lemmas.List.Elements.{All-pop}
-use Rattle.forest.specs.Passes.{PassView, IsOn}
-use Rattle.forest.specs.Slotted.{names_of_table}
+use Rattle.tables.specs.Passes.{PassView, IsOn}
+use Rattle.tables.specs.Slotted.{names_of_table}
 use Rattle.forest.specs.JoinedSeats.{AreIn}
 use Rattle.forest.proofs.Closes.{in_more}
 use Rattle.forest.proofs.close.gather.Goals as goal

@@ -1,7 +1,7 @@
 use Rattle.std.proofs.Common.{◌≡◌, ◌++◌, List, vec_len}
 use Rattle.std.specs.List.{All}
-use Rattle.forest.specs.Passes.{PassView, IsOn}
-use Rattle.forest.specs.Slotted.{names_of_table}
+use Rattle.tables.specs.Passes.{PassView, IsOn}
+use Rattle.tables.specs.Slotted.{names_of_table}
 use Rattle.forest.specs.JoinedSeats.{AreIn}
 use Rattle.forest.proofs.close.gather.Given as goal
 

@@ -1,11 +1,11 @@
 use Rattle.forest.specs.PassInvariant.{layout_in}
 use Rattle.std.proofs.Common.{◌≡◌, ◌<◌, ◌∙◌, ap, subst}
 use Rattle.arena.specs.declared.layout.Layout.{Layout}
-use Rattle.forest.specs.TableRule.{seated_pass}
-use Rattle.forest.specs.Traces.{known_of, planting_of, memory_of}
-use Rattle.forest.specs.Passes.{PassView}
+use Rattle.tables.specs.TableRule.{seated_pass}
+use Rattle.tables.specs.Traces.{known_of, planting_of, memory_of}
+use Rattle.tables.specs.Passes.{PassView}
 use Rattle.forest.proofs.Closes.{looked_from}
-use Rattle.forest.proofs.Slotted.{names_are}
+use Rattle.tables.proofs.Slotted.{names_are}
 use Rattle.forest.proofs.close.seat_of.Goals as goal
 
 pub look_alone-requires-clause-one : goal.look_alone-requires-clause-one

@@ -1,15 +1,15 @@
 use Rattle.std.proofs.Common.{rules, ◌≡◌, ◌<◌, ◌-◌, ◌∙◌, ℕ, [], ◌∷◌, List, slice_get, sym, ap, subst}
 use Rattle.histories.specs.Common.{Layout, Opened, IsRun}
 use Rattle.planting.specs.Plantings.{PlantingView, opening_for}
-use Rattle.forest.specs.declared.rule.Plot.{Plot}
-use Rattle.forest.specs.declared.view.SeatedPass.{SeatedPass}
-use Rattle.forest.specs.Slotted.{plot_at}
-use Rattle.forest.specs.TableRule.{all_dealt, new_passes, rest_of, first_of, seated_pass}
-use Rattle.forest.specs.Traces.{planting_of}
-use Rattle.forest.specs.Passes.{PassView, ground, new_pass}
+use Rattle.tables.specs.declared.rule.Plot.{Plot}
+use Rattle.tables.specs.declared.view.SeatedPass.{SeatedPass}
+use Rattle.tables.specs.Slotted.{plot_at}
+use Rattle.tables.specs.TableRule.{all_dealt, new_passes, rest_of, first_of, seated_pass}
+use Rattle.tables.specs.Traces.{planting_of}
+use Rattle.tables.specs.Passes.{PassView, ground, new_pass}
 use Rattle.prims.proofs.Lemmas.{get_more}
-use Rattle.forest.proofs.Openings.{first_left, rest_left}
-use Rattle.forest.proofs.Slotted.{names_are}
+use Rattle.tables.proofs.Openings.{first_left, rest_left}
+use Rattle.tables.proofs.Slotted.{names_are}
 use Rattle.forest.proofs.forest.pass_all.Goals as goal
 
 -- what the next seat knows

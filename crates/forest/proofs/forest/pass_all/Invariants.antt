@@ -1,7 +1,7 @@
 use Rattle.std.proofs.Common.{◌≡◌, ◌-◌, ℕ, [], Some, slice_get, vec_len}
-use Rattle.forest.specs.Slotted.{plot_at}
-use Rattle.forest.specs.TableRule.{new_passes}
-use Rattle.forest.specs.Passes.{PassView, ground, new_pass}
+use Rattle.tables.specs.Slotted.{plot_at}
+use Rattle.tables.specs.TableRule.{new_passes}
+use Rattle.tables.specs.Passes.{PassView, ground, new_pass}
 use Rattle.forest.proofs.forest.pass_all.Given as goal
 
 abbrev pub invariant-loop-number : goal.invariant-loop-number

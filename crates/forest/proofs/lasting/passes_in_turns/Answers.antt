@@ -4,16 +4,16 @@ use Rattle.histories.specs.Common.{Opened, IsRun}
 use Rattle.planting.specs.Plantings.{PlantingView, opening_for}
 use Rattle.prims.proofs.Lemmas.{get_more}
 use Rattle.slots.specs.Lasting.{Lasting}
-use Rattle.forest.specs.LastingOpening.{first_memory}
-use Rattle.forest.specs.LastingRule.{plot_in}
-use Rattle.forest.specs.LastingTables.{new_pass_in}
-use Rattle.forest.specs.Passes.{PassView, ground}
-use Rattle.forest.specs.Slotted.{in_turns}
-use Rattle.forest.specs.TableRule.{first_of, passes_with, rest_of, seated_pass}
-use Rattle.forest.specs.Traces.{planting_of}
-use Rattle.forest.specs.declared.view.SeatView.{SeatView}
-use Rattle.forest.specs.declared.view.SeatedPass.{SeatedPass}
-use Rattle.forest.proofs.Openings.{first_with, rest_with}
+use Rattle.tables.specs.LastingOpening.{first_memory}
+use Rattle.tables.specs.LastingRule.{plot_in}
+use Rattle.tables.specs.LastingTables.{new_pass_in}
+use Rattle.tables.specs.Passes.{PassView, ground}
+use Rattle.tables.specs.Slotted.{in_turns}
+use Rattle.tables.specs.TableRule.{first_of, passes_with, rest_of, seated_pass}
+use Rattle.tables.specs.Traces.{planting_of}
+use Rattle.tables.specs.declared.view.SeatView.{SeatView}
+use Rattle.tables.specs.declared.view.SeatedPass.{SeatedPass}
+use Rattle.tables.proofs.Openings.{first_with, rest_with}
 use Rattle.forest.proofs.lasting.passes_in_turns.Goals as goal
 
 pub loop-number-init : goal.loop-number-init

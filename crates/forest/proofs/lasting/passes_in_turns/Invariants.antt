@@ -1,10 +1,10 @@
 use Rattle.std.proofs.Common.{◌≡◌, ◌-◌, ℕ, [], Some, slice_get, vec_len}
-use Rattle.forest.specs.LastingOpening.{first_memory}
-use Rattle.forest.specs.LastingRule.{plot_in}
-use Rattle.forest.specs.LastingTables.{new_pass_in}
-use Rattle.forest.specs.Passes.{PassView, ground}
-use Rattle.forest.specs.Slotted.{in_turns}
-use Rattle.forest.specs.TableRule.{passes_with}
+use Rattle.tables.specs.LastingOpening.{first_memory}
+use Rattle.tables.specs.LastingRule.{plot_in}
+use Rattle.tables.specs.LastingTables.{new_pass_in}
+use Rattle.tables.specs.Passes.{PassView, ground}
+use Rattle.tables.specs.Slotted.{in_turns}
+use Rattle.tables.specs.TableRule.{passes_with}
 use Rattle.forest.proofs.lasting.passes_in_turns.Given as goal
 
 abbrev pub invariant-loop-number : goal.invariant-loop-number

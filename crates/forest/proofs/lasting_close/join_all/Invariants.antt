@@ -1,8 +1,8 @@
 use Rattle.std.proofs.Common.{◌≡◌, ◌++◌, List, vec_len}
 use Rattle.std.specs.List.{All}
-use Rattle.forest.specs.Passes.{PassView, IsOn}
+use Rattle.tables.specs.Passes.{PassView, IsOn}
 use Rattle.forest.specs.Remains.{AreSeated}
-use Rattle.forest.specs.Slotted.{names_of_table}
+use Rattle.tables.specs.Slotted.{names_of_table}
 use Rattle.forest.proofs.lasting_close.join_all.Given as goal
 
 abbrev pub invariant-loop-pass : goal.invariant-loop-pass

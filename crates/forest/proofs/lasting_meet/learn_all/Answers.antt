@@ -1,7 +1,7 @@
 use Rattle.std.proofs.Common.{◌≡◌}
 use Rattle.forest.specs.LastingMeets.{AllLearn}
-use Rattle.forest.specs.Slotted.{slots_of_table}
-use Rattle.forest.proofs.UpkeepSteps.{lasting_allows}
+use Rattle.tables.specs.Slotted.{slots_of_table}
+use Rattle.upkeep.proofs.UpkeepSteps.{lasting_allows}
 use Rattle.forest.proofs.lasting_meet.learn_all.Goals as goal
 
 pub load_with-requires-clause-inside : goal.load_with-requires-clause-inside

@@ -1,8 +1,8 @@
 use Rattle.std.proofs.Common.{ℕ, List, ◌++◌, sym, ◌∙◌, ap}
 use Rattle.atomic_table.specs.declared.shared.Seat.{Seat}
-use Rattle.forest.specs.TableRule.{first_of}
-use Rattle.forest.specs.declared.view.SeatView.{SeatView}
-use Rattle.forest.specs.declared.view.SeatedPass.{SeatedPass}
+use Rattle.tables.specs.TableRule.{first_of}
+use Rattle.tables.specs.declared.view.SeatView.{SeatView}
+use Rattle.tables.specs.declared.view.SeatedPass.{SeatedPass}
 use Rattle.forest.proofs.LastingMeets.{learnt_both}
 use Rattle.forest.proofs.lasting_meet.learn_both.Goals as goal
 

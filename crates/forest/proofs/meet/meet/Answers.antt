@@ -1,7 +1,7 @@
 use Rattle.std.proofs.Common.{ℕ, ◌++◌, sym, ◌∙◌, ap}
 use Rattle.atomic_table.specs.declared.shared.Seat.{Seat}
-use Rattle.forest.specs.declared.view.SeatView.{SeatView}
-use Rattle.forest.specs.TableRule.{after_look, rest_of, first_of}
+use Rattle.tables.specs.declared.view.SeatView.{SeatView}
+use Rattle.tables.specs.TableRule.{after_look, rest_of, first_of}
 use Rattle.forest.proofs.Meets.{looks_first}
 use Rattle.forest.proofs.meet.meet.Goals as goal
 

@@ -1,5 +1,5 @@
 use Rattle.std.proofs.Common.{List, subst}
-use Rattle.forest.specs.Passes.{PassView, AreAllBack}
+use Rattle.tables.specs.Passes.{PassView, AreAllBack}
 use Rattle.library_tests.proofs.forest_tests.end.Goals as goal
 
 pub close-requires-clause-all : goal.close-requires-clause-all

@@ -1,6 +1,6 @@
 use Rattle.std.proofs.Common.{◌∙◌, sym, subst}
 use Rattle.record.specs.Common.{MapCall, map_request}
-use Rattle.forest.specs.Passes.{IsOf, PassView}
+use Rattle.tables.specs.Passes.{IsOf, PassView}
 use Rattle.runner.specs.Calls.{HasCalledNumbers}
 use Rattle.runner.proofs.client.make_call.Goals as goal
 

@@ -1,6 +1,6 @@
 use Rattle.std.proofs.Common.{◌≡◌, take}
 use Rattle.record.specs.Commands.{commands}
-use Rattle.forest.specs.Passes.{IsOf}
+use Rattle.tables.specs.Passes.{IsOf}
 use Rattle.runner.specs.Calls.{HasCalledNumbers, HaveReplies}
 use Rattle.runner.proofs.client.make_calls.Given as goal
 

@@ -1,6 +1,6 @@
 use Rattle.std.proofs.Common.{◌≡◌, ◌∙◌, List, [], ◌∷◌, ◌++◌, sym, subst, IfOk}
 use Rattle.script.specs.declared.call.Call.{Call}
-use Rattle.forest.specs.Passes.{Ground, PassView}
+use Rattle.tables.specs.Passes.{Ground, PassView}
 use Rattle.runner.specs.Calls.{HasWorked, HaveWorked}
 use Rattle.runner.proofs.Gathered.{first_too, rest_too, joined, all_joined}
 use Rattle.runner.proofs.thread.join_all.Goals as goal

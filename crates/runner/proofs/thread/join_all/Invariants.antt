@@ -1,7 +1,7 @@
 use Rattle.std.proofs.Common.{◌≡◌, List, ◌++◌, map, IfOk}
 use Rattle.std.specs.List.{All}
 use Rattle.script.specs.declared.call.Call.{Call}
-use Rattle.forest.specs.Passes.{Ground, PassView}
+use Rattle.tables.specs.Passes.{Ground, PassView}
 use Rattle.runner.specs.Calls.{HaveWorked}
 use Rattle.runner.proofs.thread.join_all.Given as goal
 

@@ -1,7 +1,7 @@
 use denote.Param.Send.{sendable}
 use Rattle.std.proofs.Common.{◌≡◌, ◌∙◌, ◌+◌, suc, ◌∷◌, ◌++◌, [], arith, ap, length, length-append}
 use Rattle.std.proofs.lemmas.List.Elements.{All-same, All-push}
-use Rattle.forest.specs.Passes.{IsOf}
+use Rattle.tables.specs.Passes.{IsOf}
 use Rattle.runner.specs.declared.thread.Duty.{Duty}
 use Rattle.runner.proofs.Gathered.{first_too, rest_too, started}
 use Rattle.runner.proofs.thread.start_all.Goals as goal

@@ -1,6 +1,6 @@
 use Rattle.std.proofs.Common.{◌≡◌, ◌+◌, ◌≤◌, ◌++◌, map, length, vec_capacity}
 use Rattle.std.specs.List.{All}
-use Rattle.forest.specs.Passes.{IsOf}
+use Rattle.tables.specs.Passes.{IsOf}
 use Rattle.runner.proofs.thread.start_all.Given as goal
 
 abbrev pub invariant-loop-pass : goal.invariant-loop-pass

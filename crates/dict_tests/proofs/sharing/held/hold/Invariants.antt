@@ -1,5 +1,5 @@
 use Rattle.std.proofs.Common.{◌≡◌, false}
-use Rattle.forest.specs.Passes.{IsOf}
+use Rattle.tables.specs.Passes.{IsOf}
 use Rattle.dict_tests.proofs.sharing.held.hold.Given as goal
 
 abbrev pub invariant-loop-step : goal.invariant-loop-step

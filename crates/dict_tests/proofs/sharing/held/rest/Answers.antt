@@ -1,5 +1,5 @@
 use Rattle.std.proofs.Common.{subst, sym}
-use Rattle.forest.specs.Passes.{PassView, IsOf}
+use Rattle.tables.specs.Passes.{PassView, IsOf}
 use Rattle.dict_tests.proofs.sharing.held.rest.Goals as goal
 
 pub returns-in-Done-Some : goal.returns-in-Done-Some

@@ -1,5 +1,5 @@
 use Rattle.std.proofs.Common.{◌≡◌, false}
-use Rattle.forest.specs.Passes.{IsOf}
+use Rattle.tables.specs.Passes.{IsOf}
 use Rattle.dict_tests.proofs.sharing.held.rest.Given as goal
 
 abbrev pub invariant-loop-kind : goal.invariant-loop-kind

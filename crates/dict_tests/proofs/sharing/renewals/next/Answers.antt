@@ -1,6 +1,6 @@
 use Rattle.std.proofs.Common.{◌∙◌, Some, [], ◌∷◌, ◌++◌, subst}
 use Rattle.std.proofs.lemmas.List.Elements.{All-pop, All-push, All-same}
-use Rattle.forest.specs.Passes.{Ground, IsOf}
+use Rattle.tables.specs.Passes.{Ground, IsOf}
 use Rattle.forest.proofs.Crowds.{new_are_of}
 use Rattle.dict_tests.proofs.sharing.renewals.next.Goals as goal
 

@@ -1,5 +1,5 @@
 use Rattle.std.specs.List.{All}
-use Rattle.forest.specs.Passes.{IsOf}
+use Rattle.tables.specs.Passes.{IsOf}
 use Rattle.dict_tests.proofs.sharing.renewals.renewals_are_right.Given as goal
 
 abbrev pub invariant-loop-time : goal.invariant-loop-time

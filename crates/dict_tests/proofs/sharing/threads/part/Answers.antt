@@ -1,6 +1,6 @@
 use Rattle.std.proofs.Common.{[], ◌∷◌, ◌++◌, sym}
 use Rattle.std.proofs.lemmas.List.Elements.{All-nil, All-head, All-rest, All-same, All-push}
-use Rattle.forest.specs.Passes.{PassView, IsOf}
+use Rattle.tables.specs.Passes.{PassView, IsOf}
 use Rattle.dict_tests.proofs.sharing.threads.part.Goals as goal
 
 pub loop-pass-preserved : goal.loop-pass-preserved

@@ -4,7 +4,7 @@ use Rattle.dict.specs.Laws.Begins.{dict_mode}
 use Rattle.dict.specs.Laws.TypedMaps.{typed_run}
 use Rattle.dict.specs.Words.{IsWordOf}
 use Rattle.forest.specs.PassInvariant.{layout_in, seated_in}
-use Rattle.forest.specs.Shares.{HasFewNames}
+use Rattle.tables.specs.Shares.{HasFewNames}
 use Rattle.forest.specs.UpkeepKept.{HasGoneAway}
 use Rattle.forest.proofs.Rested.{at_lasting, between_now, gone_away, gone_says, gone_steps}
 use Rattle.forest.proofs.UpkeepKept.{comes_back}

@@ -5,7 +5,7 @@ use Rattle.dict.specs.Laws.TypedMaps.{typed_run}
 use Rattle.dict.specs.Words.{IsWordOf}
 use Rattle.forest.specs.AwayInvariant.{away_layout}
 use Rattle.forest.specs.PassInvariant.{seated_at}
-use Rattle.forest.specs.Shares.{HasFewNames}
+use Rattle.tables.specs.Shares.{HasFewNames}
 use Rattle.forest.specs.UpkeepKept.{HasComeBack}
 use Rattle.forest.proofs.Rested.{at_lasting, between_now, come_back, gone_says, gone_steps}
 use Rattle.forest.proofs.away.Forest+Dict+K+V+Lasts+B.back.Goals as goal

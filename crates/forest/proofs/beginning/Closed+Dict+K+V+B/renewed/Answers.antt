@@ -5,7 +5,7 @@ use Rattle.ordered_map.specs.declared.pair.Pair.{Pair}
 use Rattle.ordered_map.specs.Replies.{word_pair}
 use Rattle.ordered_map.proofs.Lemmas.{one_spelling}
 use Rattle.forest.specs.Beginnings.{BeginsWithPairs, IsRefusalOfPairs}
-use Rattle.forest.specs.TableRule.{history_of}
+use Rattle.tables.specs.TableRule.{history_of}
 use Rattle.forest.proofs.beginning.Closed+Dict+K+V+B.renewed.Goals as goal
 
 pub returns-clause-refused : goal.returns-clause-refused

@@ -9,8 +9,8 @@ use Rattle.dict.specs.Typed.{AreTyped, TypedAllows}
 use Rattle.dict.specs.Laws.TypedMaps.{typed_map, typed_run}
 use Rattle.dict.specs.Words.{IsWordOf}
 use Rattle.forest.specs.Copies.{AreCopied}
-use Rattle.forest.specs.Passes.{PassView, IsClosed}
-use Rattle.forest.specs.TableRule.{history_of}
+use Rattle.tables.specs.Passes.{PassView, IsClosed}
+use Rattle.tables.specs.TableRule.{history_of}
 use Rattle.forest.proofs.Copies.{copy_spells}
 use Rattle.forest.proofs.close.Closed+Dict+K+V+B.pairs.Goals as goal
 

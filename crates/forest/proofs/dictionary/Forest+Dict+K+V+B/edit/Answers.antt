@@ -3,11 +3,11 @@ use Rattle.histories.specs.Common.{Remaining}
 use Rattle.dict.specs.Calls.{share_of}
 use Rattle.resting.specs.Dead.{IsUnborn}
 use Rattle.dict.specs.Calls.{edit_call}
-use Rattle.forest.specs.Passes.{taken_of}
+use Rattle.tables.specs.Passes.{taken_of}
 use Rattle.forest.specs.PassInvariant.{layout_in, pass_view, seated_in}
-use Rattle.forest.specs.Traces.{run_at}
-use Rattle.forest.specs.UpkeepLost.{IsLostReply}
-use Rattle.forest.specs.StraightCalls.{IsFreshCall, CallHasEnded, SeatCallBegins}
+use Rattle.tables.specs.Traces.{run_at}
+use Rattle.upkeep.specs.UpkeepLost.{IsLostReply}
+use Rattle.straight.specs.StraightCalls.{IsFreshCall, CallHasEnded, SeatCallBegins}
 use Rattle.forest.proofs.DictCalls.{call_starts}
 use Rattle.forest.proofs.Passes.{layout_of, call_of}
 use Rattle.forest.proofs.CallStays.{call_keeps_out, call_lost}

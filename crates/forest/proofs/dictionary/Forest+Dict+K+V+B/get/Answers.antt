@@ -6,12 +6,12 @@ use Rattle.template.specs.Balance.{leaf_way}
 use Rattle.template.specs.Walk.Places.{root_trail, way_at}
 use Rattle.template.specs.declared.walk.WalkAt.TheVariants.{Start}
 use Rattle.template.specs.declared.walk.WalkRun.{WalkRun}
-use Rattle.forest.specs.Passes.{taken_of}
+use Rattle.tables.specs.Passes.{taken_of}
 use Rattle.forest.specs.PassInvariant.{pass_view}
 use Rattle.forest.specs.StraightGet.{getting}
 use Rattle.forest.proofs.Passes.{layout_of, call_of}
 use Rattle.forest.proofs.StraightGet.{get_over, get_walks, walker}
-use Rattle.forest.proofs.StraightWalk.{leaf_steps}
+use Rattle.straight.proofs.StraightWalk.{leaf_steps}
 use Rattle.forest.proofs.CallStays.{call_keeps_out}
 use Rattle.forest.proofs.Entered.{ended_keeps}
 use Rattle.forest.proofs.WholeCalls.{ended as call_over, IsOver, whole_call, whole_pass}

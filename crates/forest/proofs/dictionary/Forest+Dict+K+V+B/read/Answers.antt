@@ -1,11 +1,11 @@
 use Rattle.std.proofs.Common.{◌∙◌, ℕ, sym, ap}
 use Rattle.atomic_table.specs.declared.shared.Seat.{Seat}
 use Rattle.ordered_map.specs.Requests.{as_map_call}
-use Rattle.forest.specs.Passes.{taken_of}
+use Rattle.tables.specs.Passes.{taken_of}
 use Rattle.forest.specs.PassInvariant.{pass_view}
-use Rattle.forest.specs.StraightCalls.{CallHasEnded}
-use Rattle.forest.specs.Traces.{known_of, planting_of}
-use Rattle.forest.specs.declared.view.SeatView.{SeatView}
+use Rattle.straight.specs.StraightCalls.{CallHasEnded}
+use Rattle.tables.specs.Traces.{known_of, planting_of}
+use Rattle.tables.specs.declared.view.SeatView.{SeatView}
 use Rattle.forest.proofs.DictCalls.{read_starts}
 use Rattle.forest.proofs.Passes.{layout_of, call_of}
 use Rattle.forest.proofs.CallStays.{call_keeps_out}

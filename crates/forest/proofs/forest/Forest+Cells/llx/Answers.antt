@@ -1,6 +1,6 @@
 use Rattle.std.proofs.Common.{◌≡◌, ◌≤◌, ◌∙◌, arith, ℕ, true, refl, sym, ap, subst}
 use Rattle.histories.specs.Common.{is_final, Records, NodeNo}
-use Rattle.forest.specs.Passes.{PassView, seen_of, taken_of}
+use Rattle.tables.specs.Passes.{PassView, seen_of, taken_of}
 use Rattle.forest.specs.PassInvariant.{pass_view, IsPass}
 use Rattle.forest.proofs.UpkeepKept.{never_kept}
 use Rattle.forest.proofs.Passes.{HasOnlyLoaded, layout_of, call_of}
@@ -9,7 +9,7 @@ use Rattle.prims.specs.Cells.{AllowsAll}
 use Rattle.prims.specs.declared.llx.LlxAt.TheVariants.{Start as LlxStart}
 use Rattle.forest.specs.declared.pass.Pass.TheInside.{Inside}
 use Rattle.forest.specs.StepKinds.{HasFilledNothing}
-use Rattle.forest.specs.StraightLlx.{llx_at, SeatLlxBegins, SeatLlxEnds}
+use Rattle.straight.specs.StraightLlx.{llx_at, SeatLlxBegins, SeatLlxEnds}
 use Rattle.forest.proofs.forest.Forest+Cells.llx.Goals as goal
 
 -- the number of the call

@@ -1,12 +1,12 @@
 use Rattle.std.proofs.Common.{◌≡◌, ◌∙◌, arith, ℕ, List, refl, sym, ap, subst}
 use Rattle.template.specs.Common.{AllowsAll, IsUpdateOver, Update, Snap}
 use Rattle.arena.specs.Layout.{IsMap}
-use Rattle.forest.specs.CallSteps.{no_map_of_cells}
-use Rattle.forest.specs.Passes.{PassView, CanUse, Each, taken_of}
+use Rattle.tables.specs.CallSteps.{no_map_of_cells}
+use Rattle.tables.specs.Passes.{PassView, CanUse, Each, taken_of}
 use Rattle.forest.specs.PassInvariant.{pass_view}
 use Rattle.forest.specs.Puts.{IsPutOver}
-use Rattle.forest.specs.StraightPut.{fresh_put, SeatPutBegins}
-use Rattle.forest.specs.declared.straight.put.PutTask.{PutTask}
+use Rattle.straight.specs.StraightPut.{fresh_put, SeatPutBegins}
+use Rattle.straight.specs.declared.put.PutTask.{PutTask}
 use Rattle.forest.specs.declared.pass.Pass.TheInside.{Inside}
 use Rattle.forest.proofs.UpkeepKept.{never_kept}
 use Rattle.forest.proofs.Passes.{layout_of, call_of, goes_nowhere}

@@ -1,9 +1,9 @@
 use Rattle.std.proofs.Common.{◌∙◌, ℕ, sym, ap, subst, arith, refl}
 use Rattle.template.specs.Common.{AllowsAll}
-use Rattle.forest.specs.Passes.{PassView, VlxSays, CanUse, Each, taken_of}
+use Rattle.tables.specs.Passes.{PassView, VlxSays, CanUse, Each, taken_of}
 use Rattle.forest.specs.PassInvariant.{pass_view}
 use Rattle.forest.specs.StepKinds.{HasLoadedInfosAlone}
-use Rattle.forest.specs.StraightVlx.{SeatVlxBegins, row_of}
+use Rattle.straight.specs.StraightVlx.{SeatVlxBegins, row_of}
 use Rattle.forest.specs.declared.pass.Pass.TheInside.{Inside}
 use Rattle.forest.proofs.UpkeepKept.{never_kept}
 use Rattle.forest.proofs.Passes.{HasOnlyLoaded, layout_of, call_of, seated, called_pass, called_goes_on, called_nothing}

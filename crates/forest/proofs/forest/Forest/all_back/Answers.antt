@@ -1,9 +1,9 @@
 use Rattle.std.proofs.Common.{◌<◌, ap, sym, ◌∙◌, subst}
 use Rattle.histories.specs.Common.{Layout}
-use Rattle.forest.specs.Passes.{Ground}
+use Rattle.tables.specs.Passes.{Ground}
 use Rattle.std.proofs.lemmas.Bool.{false≢true}
 use Rattle.forest.proofs.AllBack.{has_pass, finds_pass, has_more}
-use Rattle.forest.proofs.Slotted.{passes_are}
+use Rattle.tables.proofs.Slotted.{passes_are}
 use Rattle.forest.proofs.forest.Forest.all_back.Goals as goal
 
 pub returns-then-not-has_pass : goal.returns-then-not-has_pass

@@ -1,5 +1,5 @@
 use Rattle.std.proofs.Common.{ℕ, ◌<◌}
-use Rattle.forest.specs.Passes.{HasPass}
+use Rattle.tables.specs.Passes.{HasPass}
 use Rattle.forest.proofs.forest.Forest.all_back.Given as goal
 
 abbrev pub invariant-loop-number : goal.invariant-loop-number

@@ -1,9 +1,9 @@
 use Rattle.std.proofs.Common.{sym, subst}
 use Rattle.std.specs.List.{All}
 use Rattle.histories.specs.Common.{Contents}
-use Rattle.forest.specs.Passes.{Ground, IsOf, IsClosed}
+use Rattle.tables.specs.Passes.{Ground, IsOf, IsClosed}
 use Rattle.forest.proofs.Closes.{closes_site}
-use Rattle.forest.proofs.Slotted.{once_by}
+use Rattle.tables.proofs.Slotted.{once_by}
 use Rattle.forest.proofs.forest.Forest.close.Goals as goal
 
 pub returns-clause-closed : goal.returns-clause-closed

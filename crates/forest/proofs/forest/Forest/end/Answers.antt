@@ -2,10 +2,10 @@ use Rattle.std.proofs.Common.{List, [], ◌∷◌, inl, refl, sym, subst}
 use Rattle.std.specs.List.{All}
 use Rattle.std.proofs.lemmas.List.Elements.{All-nil, All-cons}
 use Rattle.histories.specs.Common.{Contents}
-use Rattle.forest.specs.Passes.{PassView, Ground, IsOf, IsClosed}
+use Rattle.tables.specs.Passes.{PassView, Ground, IsOf, IsClosed}
 use Rattle.forest.specs.JoinedSeats.{AreIn}
 use Rattle.forest.proofs.Closes.{closes_site}
-use Rattle.forest.proofs.Slotted.{once_by}
+use Rattle.tables.proofs.Slotted.{once_by}
 use Rattle.forest.proofs.forest.Forest.end.Goals as goal
 
 pub returns-clause-closed : goal.returns-clause-closed

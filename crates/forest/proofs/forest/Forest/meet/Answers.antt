@@ -1,10 +1,10 @@
 use Rattle.std.proofs.Common.{◌∙◌, sym, ap}
 use Rattle.arena.proofs.Lemmas.{ends_trans}
-use Rattle.forest.specs.Passes.{PassView}
+use Rattle.tables.specs.Passes.{PassView}
 use Rattle.forest.proofs.UpkeepKept.{never_kept}
 use Rattle.forest.proofs.Passes.{layout_of, called_pass}
 use Rattle.forest.proofs.Meets.{have_met, met_left, looked_once}
-use Rattle.forest.proofs.Slotted.{names_are, once_by}
+use Rattle.tables.proofs.Slotted.{names_are, once_by}
 use Rattle.forest.proofs.forest.Forest.meet.Goals as goal
 
 pub meet-requires-clause-first : goal.meet-requires-clause-first

@@ -1,7 +1,7 @@
 use Rattle.std.proofs.Common.{sym, ap, subst}
 use Rattle.histories.specs.Common.{Layout}
-use Rattle.forest.specs.Passes.{AreNew, ground}
-use Rattle.forest.specs.Slotted.{names_of_table}
+use Rattle.tables.specs.Passes.{AreNew, ground}
+use Rattle.tables.specs.Slotted.{names_of_table}
 use Rattle.forest.proofs.forest.Forest.with_plot.Goals as goal
 
 pub returns-clause-passes : goal.returns-clause-passes

@@ -7,16 +7,16 @@ use Rattle.dict.specs.Laws.Begins.{dict_mode}
 use Rattle.dict.specs.Laws.TypedMaps.{typed_run}
 use Rattle.dict.specs.Typed.{TypedAllows}
 use Rattle.dict.specs.Words.{IsWordOf}
-use Rattle.forest.specs.LastingOpening.{first_view}
-use Rattle.forest.specs.LastingTables.{AreNewIn}
-use Rattle.forest.specs.Passes.{ground}
-use Rattle.forest.specs.Slotted.{in_turns, names_of_table}
-use Rattle.forest.specs.Shares.{HasFewNames}
-use Rattle.forest.specs.TablePlans.{IsTableOf}
-use Rattle.forest.specs.UpkeepSteps.{IsLastingTable}
-use Rattle.forest.specs.declared.rule.Site.{Site}
-use Rattle.forest.specs.declared.table_plan.TablePlan.{TablePlan}
-use Rattle.forest.proofs.LastingTables.{many_names, opening_in_turns, turned_table}
+use Rattle.tables.specs.LastingOpening.{first_view}
+use Rattle.tables.specs.LastingTables.{AreNewIn}
+use Rattle.tables.specs.Passes.{ground}
+use Rattle.tables.specs.Slotted.{in_turns, names_of_table}
+use Rattle.tables.specs.Shares.{HasFewNames}
+use Rattle.tables.specs.TablePlans.{IsTableOf}
+use Rattle.upkeep.specs.UpkeepSteps.{IsLastingTable}
+use Rattle.tables.specs.declared.rule.Site.{Site}
+use Rattle.tables.specs.declared.table_plan.TablePlan.{TablePlan}
+use Rattle.tables.proofs.LastingTables.{many_names, opening_in_turns, turned_table}
 use Rattle.forest.proofs.lasting.Forest+Dict+K+V+Lasts+B.with_turns.Goals as goal
 
 pub open_in_turns-requires-clause-run : goal.open_in_turns-requires-clause-run

@@ -1,9 +1,9 @@
 use Rattle.std.proofs.Common.{◌<◌, ℕ, sym, ◌∙◌, ap, subst, arith}
 use Rattle.std.specs.List.{All}
 use Rattle.histories.specs.Common.{Layout}
-use Rattle.forest.specs.Passes.{Ground, IsOf}
+use Rattle.tables.specs.Passes.{Ground, IsOf}
 use Rattle.forest.proofs.AllBack.{some_back}
-use Rattle.forest.proofs.Slotted.{passes_are}
+use Rattle.tables.proofs.Slotted.{passes_are}
 use Rattle.forest.proofs.lasting_close.Forest+Dict+K+V+Lasts+B.close.Goals as goal
 
 pub join_all-requires : goal.join_all-requires

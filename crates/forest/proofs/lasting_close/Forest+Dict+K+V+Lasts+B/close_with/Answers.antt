@@ -2,9 +2,9 @@ use Rattle.std.proofs.Common.{sym, ◌∙◌, subst}
 use Rattle.std.specs.List.{All}
 use Rattle.dict.specs.Typed.{TypedAllows}
 use Rattle.dict.specs.Words.{IsWordOf}
-use Rattle.forest.specs.Passes.{Ground, IsOf}
+use Rattle.tables.specs.Passes.{Ground, IsOf}
 use Rattle.forest.specs.Remains.{AreRemains, SlotWords}
-use Rattle.forest.specs.Slotted.{in_turns}
+use Rattle.tables.specs.Slotted.{in_turns}
 use Rattle.forest.proofs.LastingEnds.{remains_site}
 use Rattle.forest.proofs.lasting_close.Forest+Dict+K+V+Lasts+B.close_with.Goals as goal
 

@@ -2,7 +2,7 @@ use Rattle.std.proofs.Common.{[], ◌∷◌, inl, refl, sym, subst}
 use Rattle.std.proofs.lemmas.List.Elements.{All-nil, All-cons}
 use Rattle.dict.specs.Typed.{TypedAllows}
 use Rattle.dict.specs.Words.{IsWordOf}
-use Rattle.forest.specs.Passes.{IsOf}
+use Rattle.tables.specs.Passes.{IsOf}
 use Rattle.forest.specs.Remains.{AreSeated}
 use Rattle.forest.proofs.lasting_close.Forest+Dict+K+V+Lasts+B.end.Goals as goal
 

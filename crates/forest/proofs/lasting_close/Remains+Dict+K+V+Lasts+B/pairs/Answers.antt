@@ -9,9 +9,9 @@ use Rattle.ordered_map.proofs.MapLemmas.{run_spells}
 use Rattle.dict.specs.Typed.{AreTyped, TypedAllows}
 use Rattle.dict.specs.Laws.TypedMaps.{typed_map, typed_run}
 use Rattle.dict.specs.Words.{IsWordOf}
-use Rattle.forest.specs.Passes.{PassView}
+use Rattle.tables.specs.Passes.{PassView}
 use Rattle.forest.specs.Remains.{AreNamedBySlots, AreRemains, SlotWords}
-use Rattle.forest.specs.TableRule.{history_of}
+use Rattle.tables.specs.TableRule.{history_of}
 use Rattle.forest.proofs.LastingEnds.{slots_spell}
 use Rattle.forest.proofs.lasting_close.Remains+Dict+K+V+Lasts+B.pairs.Goals as goal
 

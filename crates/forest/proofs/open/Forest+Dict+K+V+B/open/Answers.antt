@@ -8,17 +8,17 @@ use Rattle.ordered_map.specs.CallRules.{most_steps}
 use Rattle.dict.specs.Steps.{map_left}
 use Rattle.dict.specs.Typed.{TypedAllows}
 use Rattle.dict.specs.Words.{IsWordOf}
-use Rattle.forest.specs.Passes.{PassView, Ground, taken_of}
+use Rattle.tables.specs.Passes.{PassView, Ground, taken_of}
 use Rattle.forest.specs.PassInvariant.{pass_view, layout_in}
-use Rattle.forest.specs.Traces.{CallBegins, shared_nodes, weight}
-use Rattle.forest.proofs.Advances.{few_taken, weighs}
-use Rattle.forest.specs.CallSteps.{HasDictLeft}
-use Rattle.forest.specs.StraightCalls.{IsSameDictCall}
+use Rattle.tables.specs.Traces.{CallBegins, shared_nodes, weight}
+use Rattle.straight.proofs.Advances.{few_taken, weighs}
+use Rattle.tables.specs.CallSteps.{HasDictLeft}
+use Rattle.straight.specs.StraightCalls.{IsSameDictCall}
 use Rattle.forest.proofs.DictCalls.{request_starts}
 use Rattle.forest.proofs.OpenBegins.{begins_keeps, begins_open}
 use Rattle.forest.proofs.OpenSteps.{DictStands}
 use Rattle.forest.proofs.Passes.{call_of, layout_of}
-use Rattle.forest.proofs.Places.{stands}
+use Rattle.straight.proofs.Places.{stands}
 use Rattle.forest.proofs.open.Forest+Dict+K+V+B.open.Given.{Over}
 use Rattle.forest.proofs.open.Forest+Dict+K+V+B.open.Goals as goal
 

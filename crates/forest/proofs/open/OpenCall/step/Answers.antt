@@ -1,7 +1,7 @@
 use Rattle.std.proofs.Common.{◌≡◌, ◌∙◌, true, false, ap, sym, refl}
 use Rattle.histories.specs.Common.{Layout}
 use Rattle.forest.specs.Opened.{OpenView}
-use Rattle.forest.specs.Passes.{Ground, IsOf, PassView}
+use Rattle.tables.specs.Passes.{Ground, IsOf, PassView}
 use Rattle.forest.proofs.Passes.{layout_of}
 use Rattle.forest.proofs.OpenSteps.{open_asks, open_host, open_waits, same_call, stays_lawful, stays_open, is_answered, differ, over_keeps, step_keeps}
 use Rattle.forest.proofs.open.OpenCall.step.Goals as goal

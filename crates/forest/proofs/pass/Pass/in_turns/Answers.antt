@@ -5,18 +5,18 @@ use Rattle.histories.specs.Common.{Layout, Opened, IsRun, Remaining}
 use Rattle.planting.specs.Plantings.{opening_for}
 use Rattle.prims.specs.Shares.{share_end}
 use Rattle.slots.specs.Lasting.{Lasting}
-use Rattle.forest.specs.LastingOpening.{first_memory}
-use Rattle.forest.specs.LastingTables.{first_share}
+use Rattle.tables.specs.LastingOpening.{first_memory}
+use Rattle.tables.specs.LastingTables.{first_share}
 use Rattle.forest.specs.PassInvariant.{view_with}
-use Rattle.forest.specs.Shares.{IsBetweenCalls}
-use Rattle.forest.specs.Slotted.{in_turns}
-use Rattle.forest.specs.TableRule.{dealt_to, history_of}
+use Rattle.tables.specs.Shares.{IsBetweenCalls}
+use Rattle.tables.specs.Slotted.{in_turns}
+use Rattle.tables.specs.TableRule.{dealt_to, history_of}
 use Rattle.atomic_table.specs.declared.shared.Seat.{Seat}
-use Rattle.forest.specs.declared.view.SeatView.{SeatView}
-use Rattle.forest.specs.Traces.{known_of, layout_at, memory_of, planting_of, run_at}
-use Rattle.forest.proofs.Advances.{seat_back}
+use Rattle.tables.specs.declared.view.SeatView.{SeatView}
+use Rattle.tables.specs.Traces.{known_of, layout_at, memory_of, planting_of, run_at}
+use Rattle.straight.proofs.Advances.{seat_back}
 use Rattle.forest.proofs.Blames.{blamed_nobody}
-use Rattle.forest.proofs.LastingTables.{begins_in_turns, ends_as_dealt}
+use Rattle.tables.proofs.LastingTables.{begins_in_turns, ends_as_dealt}
 use Rattle.forest.proofs.pass.Pass.in_turns.Given.{Over}
 use Rattle.forest.proofs.pass.Pass.in_turns.Goals as goal
 

@@ -4,12 +4,12 @@ use Rattle.arena.proofs.Lemmas.{ends_self}
 use Rattle.histories.specs.Common.{Opened, IsRun}
 use Rattle.planting.specs.Plantings.{opening_for}
 use Rattle.prims.specs.Shares.{share_end}
-use Rattle.forest.specs.Shares.{IsBetweenCalls}
-use Rattle.forest.specs.TableRule.{all_dealt, dealt_to, history_of}
+use Rattle.tables.specs.Shares.{IsBetweenCalls}
+use Rattle.tables.specs.TableRule.{all_dealt, dealt_to, history_of}
 use Rattle.atomic_table.specs.declared.shared.Seat.{Seat}
-use Rattle.forest.specs.declared.view.SeatView.{SeatView}
-use Rattle.forest.specs.Traces.{known_of, layout_at, memory_of, planting_of, run_at}
-use Rattle.forest.proofs.Advances.{seat_back}
+use Rattle.tables.specs.declared.view.SeatView.{SeatView}
+use Rattle.tables.specs.Traces.{known_of, layout_at, memory_of, planting_of, run_at}
+use Rattle.straight.proofs.Advances.{seat_back}
 use Rattle.forest.proofs.Blames.{blamed_nobody}
 use Rattle.forest.proofs.Passes.{begins_at_rest}
 use Rattle.forest.proofs.UpkeepKept.{never_kept}

@@ -1,5 +1,5 @@
 use Rattle.std.proofs.Common.{ap}
-use Rattle.forest.specs.Passes.{taken_of}
+use Rattle.tables.specs.Passes.{taken_of}
 use Rattle.forest.proofs.pass.Pass.taken.Goals as goal
 
 pub returns : goal.returns

@@ -4,11 +4,11 @@ use Rattle.dict.specs.Laws.Begins.{dict_mode}
 use Rattle.dict.specs.Laws.TypedMaps.{typed_run}
 use Rattle.dict.specs.Words.{IsWordOf}
 use Rattle.forest.specs.PassInvariant.{layout_in, seated_in}
-use Rattle.forest.specs.Shares.{HasFewNames}
-use Rattle.forest.specs.Slotted.{in_turns}
+use Rattle.tables.specs.Shares.{HasFewNames}
+use Rattle.tables.specs.Slotted.{in_turns}
 use Rattle.forest.specs.UpkeepKept.{KeepsRight}
 use Rattle.forest.proofs.Rested.{at_lasting, left_now, rest_keeps, rest_pass, rest_says, rested_nothing}
-use Rattle.forest.proofs.UpkeepSteps.{passes_of_table}
+use Rattle.upkeep.proofs.UpkeepSteps.{passes_of_table}
 use Rattle.forest.proofs.rests.Forest+Dict+K+V+Lasts+B.rest.Goals as goal
 
 pub returns-in_default-clause-rested : goal.returns-in_default-clause-rested

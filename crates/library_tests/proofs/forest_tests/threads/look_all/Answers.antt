@@ -1,6 +1,6 @@
 use Rattle.std.proofs.Common.{[], ◌∷◌, ◌++◌}
 use Rattle.std.proofs.lemmas.List.Elements.{All-rest, All-same, All-push}
-use Rattle.forest.specs.Passes.{IsOf}
+use Rattle.tables.specs.Passes.{IsOf}
 use Rattle.library_tests.proofs.forest_tests.threads.look_all.Goals as goal
 
 pub loop-pass-preserved : goal.loop-pass-preserved

@@ -1,5 +1,5 @@
 use Rattle.std.specs.List.{All}
-use Rattle.forest.specs.Passes.{IsOf}
+use Rattle.tables.specs.Passes.{IsOf}
 use Rattle.library_tests.proofs.forest_tests.threads.look_all.Given as goal
 
 abbrev pub invariant-loop-pass : goal.invariant-loop-pass

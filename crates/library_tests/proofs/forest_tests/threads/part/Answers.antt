@@ -1,6 +1,6 @@
 use Rattle.std.proofs.Common.{[], ◌∷◌, ◌++◌, sym}
 use Rattle.std.proofs.lemmas.List.Elements.{All-head, All-rest, All-same, All-push}
-use Rattle.forest.specs.Passes.{PassView, IsOf}
+use Rattle.tables.specs.Passes.{PassView, IsOf}
 use Rattle.library_tests.specs.declared.forest_tests.threads.Tally.{Tally}
 use Rattle.library_tests.proofs.forest_tests.threads.part.Goals as goal
 

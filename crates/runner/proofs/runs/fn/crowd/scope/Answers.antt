@@ -1,5 +1,5 @@
 use Rattle.std.proofs.Common.{List, subst, IfOk}
-use Rattle.forest.specs.Passes.{PassView}
+use Rattle.tables.specs.Passes.{PassView}
 use Rattle.runner.specs.Calls.{HaveWorked}
 use Rattle.runner.proofs.runs.fn.crowd.scope.Goals as goal
 

@@ -1,6 +1,0 @@
-use Rattle.forest.specs.LastingNotes.{memory_away}
-use Rattle.forest.specs.UpkeepSteps.{LearnsFrom}
-use Rattle.forest.proofs.upkeep.leave.Given as goal
-
-abbrev pub ghosts-store_with : goal.ghosts-store_with
-ghosts-store_with g a = record { learns = λ v n w. LearnsFrom g.S.Shape.allows (λ m rows. memory_away m) v w }

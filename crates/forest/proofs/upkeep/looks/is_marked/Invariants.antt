@@ -1,7 +1,0 @@
-use Rattle.forest.specs.LastingNotes.{memory_marked}
-use Rattle.forest.specs.UpkeepBook.{LearnsOf, name_numbered}
-use Rattle.forest.specs.declared.upkeep.kind.RecordKind.TheVariants.{Node}
-use Rattle.forest.proofs.upkeep.looks.is_marked.Given as goal
-
-abbrev pub ghosts-load_with : goal.ghosts-load_with
-ghosts-load_with g a = record { learns = LearnsOf g.S.Shape.allows (λ m n. memory_marked m (name_numbered Node a.about) n) }

@@ -1,6 +1,0 @@
-use Rattle.forest.specs.UpkeepBook.{LearnsOf, memory_with_note, name_numbered}
-use Rattle.forest.specs.declared.memory.NoteView.TheVariants.{DeadBy}
-use Rattle.forest.proofs.upkeep.looks.note_dying.Given as goal
-
-abbrev pub ghosts-load_with : goal.ghosts-load_with
-ghosts-load_with g a = record { learns = LearnsOf g.S.Shape.allows (λ m n rows. memory_with_note m (name_numbered a.about.kind a.about.number) (DeadBy rows)) }

@@ -1,5 +1,0 @@
-use Rattle.forest.proofs.Ruled.{ruled_splits}
-use Rattle.forest.proofs.words.Words.deal.Goals as goal
-
-pub split_seat-requires : goal.split_seat-requires
-split_seat-requires g c = (c.requires.table, c.args.self.now.some, ruled_splits g.S.Shape.allows _ _ _)

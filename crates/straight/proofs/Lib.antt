@@ -1,0 +1,17 @@
+pub mod Advances
+pub mod AfterCalls
+pub mod Places
+pub mod Inside
+pub mod Hosts
+pub mod StraightLlx
+pub mod StraightHelp
+pub mod StraightScx
+pub mod StraightPut
+pub mod StraightVlx
+pub mod StraightWalk
+pub mod StraightReads
+pub mod StraightReading
+pub mod StraightUpdate
+pub mod StraightGuard
+pub mod StraightTries
+pub mod StraightCalls

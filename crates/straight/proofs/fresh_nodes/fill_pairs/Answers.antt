@@ -1,0 +1,18 @@
+use Rattle.straight.proofs.StraightTries.{fills_as, fills_further}
+use Rattle.straight.proofs.fresh_nodes.fill_pairs.Goals as goal
+
+pub fill_pair-second-requires-clause-fills : goal.fill_pair-second-requires-clause-fills
+fill_pair-second-requires-clause-fills g c = let r = c.requires.fills in (r.0, rw (c.is_pair_next.ensures c.if-not-is_pair_next.false).0 at r.1)
+
+pub fill_pair-third-requires-clause-fills : goal.fill_pair-third-requires-clause-fills
+fill_pair-third-requires-clause-fills g c =
+    let r = c.requires.fills in
+    (r.0, (fills_further (fills_as (c.is_pair_next.ensures c.if-not-is_pair_next.false).0) (fills_further c.fill_pair-second.ensures.goes_on (fills_as (c.is_pair_next-2.ensures c.if-not-is_pair_next-2.false).0))).to r.0 r.1)
+
+pub fill_last_pairs-requires-clause-fills : goal.fill_last_pairs-requires-clause-fills
+fill_last_pairs-requires-clause-fills g c =
+    let r = c.requires.fills in
+    (r.0, (fills_further (fills_as (c.is_pair_next.ensures c.if-not-is_pair_next.false).0) (fills_further c.fill_pair-second.ensures.goes_on (fills_further (fills_as (c.is_pair_next-2.ensures c.if-not-is_pair_next-2.false).0) c.fill_pair-third.ensures.goes_on))).to r.0 r.1)
+
+pub returns : goal.returns
+returns g c = fills_further (fills_as (c.is_pair_next.ensures c.if-not-is_pair_next.false).0) (fills_further c.fill_pair-second.ensures.goes_on (fills_further (fills_as (c.is_pair_next-2.ensures c.if-not-is_pair_next-2.false).0) (fills_further c.fill_pair-third.ensures.goes_on c.fill_last_pairs.ensures)))

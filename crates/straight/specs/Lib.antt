@@ -1,0 +1,16 @@
+pub mod StraightLlx
+pub mod StraightHelp
+pub mod StraightScx
+pub mod StraightPut
+pub mod StraightVlx
+pub mod StraightWalk
+pub mod StraightUpdate
+pub mod StraightGuard
+pub mod StraightCalls
+pub mod StraightReads
+pub mod CallKinds
+pub mod Hands
+pub mod Inside
+pub mod Hosts
+pub mod Leads
+pub mod InnerSteps

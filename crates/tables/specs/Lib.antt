@@ -1,0 +1,17 @@
+pub mod Shares
+pub mod Passes
+pub mod Traces
+pub mod CallSteps
+pub mod TableRule
+pub mod Seats
+pub mod Slotted
+pub mod TablePlans
+pub mod Lasts
+pub mod LastingMemory
+pub mod LastingNotes
+pub mod LastingSlots
+pub mod LastingNames
+pub mod LastingRule
+pub mod LastingOpening
+pub mod LastingTables
+pub mod Ruled

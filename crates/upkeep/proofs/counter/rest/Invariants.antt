@@ -1,0 +1,6 @@
+use Rattle.tables.specs.LastingNotes.{memory_rested}
+use Rattle.upkeep.specs.UpkeepSteps.{LearnsFrom}
+use Rattle.upkeep.proofs.counter.rest.Given as goal
+
+abbrev pub ghosts-store_with : goal.ghosts-store_with
+ghosts-store_with g a = record { learns = λ v n w. LearnsFrom g.S.Shape.allows memory_rested v w }

@@ -1,0 +1,31 @@
+use Rattle.std.proofs.Common.{refl, sym, ◌∙◌}
+use Rattle.histories.specs.Common.{scx}
+use Rattle.histories.proofs.Lemmas.{own_scx_inside}
+use Rattle.upkeep.specs.UpkeepBook.{name_numbered, slots_in}
+use Rattle.upkeep.specs.UpkeepScx.{LearnsPart}
+use Rattle.tables.specs.LastingRule.{LoadsWord}
+use Rattle.upkeep.specs.declared.kind.RecordKind.TheVariants.{Scx}
+use Rattle.upkeep.proofs.UpkeepLooks.{passes_in, scx_in_slot, table_in}
+use Rattle.upkeep.proofs.UpkeepScx.{part_learnt}
+use Rattle.upkeep.proofs.UpkeepSteps.{upkeep_allows}
+use Rattle.upkeep.proofs.scx.load_part.Goals as goal
+
+pub place-at-requires : goal.place-at-requires
+place-at-requires g c = let r = c.requires.pass in (own_scx_inside c.args.layout.now r.0.number.0 c.args.slot r.1.is_pass r.2, c.requires.part)
+
+pub load_with-requires-clause-may : goal.load_with-requires-clause-may
+load_with-requires-clause-may g c =
+    let r = c.requires.pass in
+    let allows = g.S.Shape.allows in
+    let t = slots_in c.args.words.now in
+    let site = c.args.words.now.table.shared.key in
+    let turns = r.1.table.0 in
+    let of = c.args.of in
+    let is_pass = passes_in c.args.words.now c.args.layout.now c.args.seat.now r.0 r.1 in
+    upkeep_allows allows site turns.turns turns.comes_back c.args.words.now.table.shared.table_id.slots c.args.seat.now.id c.args.seat.now.me _ c.place-at.result (λ n. n) (λ n w. LoadsWord allows r.0 (scx of.name of.part) n c.args.seat.now.me.0 w) (λ n w. LearnsPart allows of.name of.part c.args.seat.now.me.0 n w)
+    (scx_in_slot t c.args.layout.now c.args.slot of.name of.part (table_in c.args.words.now c.args.layout.now c.args.seat.now r.0 r.1) r.3.slot_is ∙ sym c.place-at.ensures.place)
+    (λ n w x. (r.0, r.1.alone, x))
+    (c.sights_last.ensures.loads t site.planting c.args.words.now.table.shared.table_id.slots c.args.seat.now.id c.args.seat.now.me r.0 (name_numbered Scx of.name) (scx of.name of.part) r.1.alone is_pass r.3.held refl (own_scx_inside t.lay r.0.number.0 of.name is_pass r.3.own, c.requires.part))
+
+pub returns-clause-loaded : goal.returns-clause-loaded
+returns-clause-loaded g c = part_learnt g.S.Shape.allows c.args.of.name c.args.of.part c.args.seat.now.me.0 c.load_with.new.seat.me.0 c.load_with.result c.load_with.ensures.learnt
