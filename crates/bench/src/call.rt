@@ -4,11 +4,12 @@ ghost use Rattle.tables.specs.Passes.{IsOf};
 ghost use Rattle.bench.specs.Tally.{total};
 
 use crate::keys::{Draw, Keys};
+use crate::measured::Measured;
 use crate::tally::{End, Tally, with_reply};
 use crate::task::Task;
 use crate::work::MapWork;
 use dict::Dict;
-use forest::{FilledOnce, Forest, OrderFault, Pass, UpdateFault};
+use forest::{Forest, Keeping, OrderFault, Pass, UpdateFault};
 use std::alloc::Global;
 
 /// A dictionary of numbers of one word.
@@ -17,8 +18,11 @@ pub type Numbers<B> = Dict<u64, u64, B>;
 /// The most pairs that a range may be asked for here.
 const MOST_PAIRS: usize = 64;
 
+/// After how many rounds a pass rests, if it does.
+const OFTEN: u32 = 32;
+
 /// All rounds of a thread.
-pub fn rounds<B: FilledOnce>(
+pub fn rounds<B: Measured>(
     alloc: Global,
     forest: &Forest<Numbers<B>>,
     task: Task,
@@ -34,12 +38,16 @@ pub fn rounds<B: FilledOnce>(
         let draw = keys.draw(task, work, call);
         let end = round(alloc, forest, work, &mut pass, draw, &mut tally);
         tally.count(end);
+        if B::rests() && call % OFTEN == 0 {
+            B::rest(forest, &mut pass);
+        }
     }
+    B::leave(forest, pass);
     tally
 }
 
 /// A round, in which this pair may be put in.
-fn round<B: FilledOnce>(
+fn round<B: Keeping>(
     alloc: Global,
     forest: &Forest<Numbers<B>>,
     work: MapWork,
@@ -74,7 +82,7 @@ fn round<B: FilledOnce>(
 }
 
 /// Looks a key up in `looks` of a hundred rounds; else puts it in or takes it out.
-fn mix<B: FilledOnce>(
+fn mix<B: Keeping>(
     forest: &Forest<Numbers<B>>,
     pass: &mut Pass<Numbers<B>>,
     draw: Draw,
@@ -95,7 +103,7 @@ fn mix<B: FilledOnce>(
 }
 
 /// Takes the first pair out; a scheduler puts this one in.
-fn pop<B: FilledOnce>(
+fn pop<B: Keeping>(
     forest: &Forest<Numbers<B>>,
     work: MapWork,
     pass: &mut Pass<Numbers<B>>,

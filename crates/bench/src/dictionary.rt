@@ -6,12 +6,13 @@ ghost use Rattle.tables.specs.Passes.{IsOf};
 use crate::call::{Numbers, rounds};
 use crate::fault::Fault;
 use crate::keys::Keys;
+use crate::measured::Measured;
 use crate::repetition::{Repetition, now, numbered};
 use crate::tally::Tally;
 use crate::task::Task;
 use crate::work::MapWork;
 use arena::Limits;
-use forest::{FilledOnce, Forest, NewFault, Pass};
+use forest::{Forest, NewFault, Pass};
 use std::alloc::{AllocError, Global};
 use std::rt::Clock;
 use std::thread::{Threads, map_vec};
@@ -20,7 +21,7 @@ use std::thread::{Threads, map_vec};
 pub type Opened<B> = (Forest<Numbers<B>>, Vec<Pass<Numbers<B>>>);
 
 /// Makes a dictionary and fills it, and lets the threads work in it.
-pub fn run<R: Threads + Sync + Clock + AllocGlobal, B: FilledOnce + Send>(
+pub fn run<R: Threads + Sync + Clock + AllocGlobal, B: Measured + Send>(
     rt: &R,
     task: Task,
     work: MapWork,
@@ -33,18 +34,17 @@ pub fn run<R: Threads + Sync + Clock + AllocGlobal, B: FilledOnce + Send>(
     Repetition::since(rt, start, &tallies)
 }
 
-/// A dictionary with a pass for each thread, and after these the passes that fill it. Shares are
-/// whole ones.
-fn open<B: FilledOnce>(alloc: Global, task: Task) -> Result<Opened<B>, Fault>
+/// A dictionary with a pass for each thread, and after these the passes that fill it.
+fn open<B: Measured>(alloc: Global, task: Task) -> Result<Opened<B>, Fault>
     ensures { IfOk result (λ r. All (IsOf r.0) r.1.items) }
 {
     let limits = Limits {
         passes: task.threads.saturating_add(task.fillers()),
-        nodes: Limits::MOST_RECORDS,
-        scx: Limits::MOST_RECORDS,
+        nodes: task.share(),
+        scx: task.share(),
         tries: Limits::MOST_TRIES,
     };
-    match Forest::<Numbers<B>>::new(alloc, limits) {
+    match B::open(alloc, limits) {
         Ok(opened) => Ok(opened),
         Err(NewFault::NoMemory) => Err(Fault::NoMemory),
         Err(NewFault::Limits) => Err(Fault::Usage),
@@ -52,7 +52,7 @@ fn open<B: FilledOnce>(alloc: Global, task: Task) -> Result<Opened<B>, Fault>
 }
 
 /// Puts the pairs of the start into the map, by the last passes, and answers the others.
-fn fill_up<B: FilledOnce>(
+fn fill_up<B: Measured>(
     forest: &Forest<Numbers<B>>,
     task: Task,
     mut passes: Vec<Pass<Numbers<B>>>,
@@ -72,7 +72,7 @@ fn fill_up<B: FilledOnce>(
 }
 
 /// Puts this many fresh keys of the source into the map.
-fn fill<B: FilledOnce>(
+fn fill<B: Measured>(
     forest: &Forest<Numbers<B>>,
     mut pass: Pass<Numbers<B>>,
     mut source: Keys,
@@ -84,19 +84,20 @@ fn fill<B: FilledOnce>(
 {
     for _draw in 0..u32::MAX {
         if pairs == 0 {
-            return;
+            break;
         }
         let key = source.key(keys);
         match forest.insert_new(&mut pass, key, key) {
             Ok(None) => pairs -= 1,
             Ok(Some(_)) => {}
-            Err(_) => return,
+            Err(_) => break,
         }
     }
+    B::leave(forest, pass);
 }
 
 /// Each pass works in a thread of its own.
-fn crowd<R: Threads + Sync, B: FilledOnce + Send>(
+fn crowd<R: Threads + Sync, B: Measured + Send>(
     rt: &R,
     alloc: Global,
     forest: &Forest<Numbers<B>>,

@@ -10,7 +10,7 @@ use thiserror::Error;
 #[derive(Clone, Copy, Debug, Error)]
 pub enum Fault {
     /// Words that do not fit the command line.
-    #[error("usage: bench WORK|cells|tree|trie|peers|mutex|all [THREADS [CALLS [TIMES [KEYS]]]]")]
+    #[error("usage: bench WORK|cells|tree|trie|lasting|peers|mutex|all [THREADS [CALLS [TIMES [KEYS]]]]")]
     Usage,
     /// An allocation was refused.
     #[error("no memory")]

@@ -11,6 +11,7 @@ mod keys;
 mod load;
 mod locked;
 mod measure;
+mod measured;
 mod pair;
 mod program;
 mod repetition;

@@ -4,6 +4,7 @@ ghost use Rattle.std.specs.Prelude.{◌≤◌};
 use crate::draws::Draws;
 use crate::keys::Keys;
 use crate::work::Work;
+use arena::Limits;
 use std::fmt;
 
 /// How many pairs a pass puts into a map before the threads start.
@@ -35,6 +36,18 @@ impl Task {
             self.keys
         } else {
             self.keys / 2
+        }
+    }
+
+    /// How many nodes, and how many SCX-records, a pass has: whole shares, or where they come back
+    /// ten times as many as there are pairs.
+    pub fn share(self) -> u32 {
+        if self.work.lasts() {
+            self.pairs()
+                .saturating_mul(10)
+                .clamp(64, Limits::MOST_RECORDS)
+        } else {
+            Limits::MOST_RECORDS
         }
     }
 
@@ -80,7 +93,8 @@ impl fmt::Display for Task {
         let keys = match self.work {
             Work::Cells(_) => 0,
             Work::Load(_) => self.calls,
-            Work::Tree(_) | Work::Trie(_) | Work::Peers(_) | Work::Locked(_) => self.keys,
+            Work::Tree(_) | Work::Trie(_) | Work::Lasting(_) | Work::Peers(_) | Work::Locked(_) =>
+                self.keys,
         };
         write!(f, "{work},{keys},{threads},{calls},{times}")
     }

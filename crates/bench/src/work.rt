@@ -20,6 +20,8 @@ pub enum Work {
     Tree(MapWork),
     /// The same call of one that is a trie.
     Trie(MapWork),
+    /// The same call of one that lasts: its passes rest after each 32 rounds.
+    Lasting(MapWork),
     /// The same by the draws with which the maps of others were measured.
     Peers(MapWork),
     /// The same call of a map behind a lock, as a measure for the dictionary.
@@ -105,6 +107,24 @@ pub struct Bounds {
     ghost few_keys: { usual_keys ≤ 100000 },
 }
 
+impl Bounds {
+    /// The same with as many rounds as are asked for.
+    fn without_end(self) -> Bounds {
+        let Bounds {
+            threads,
+            calls: _,
+            usual_calls,
+            usual_keys,
+        } = self;
+        Bounds {
+            threads,
+            calls: u32::MAX,
+            usual_calls,
+            usual_keys,
+        }
+    }
+}
+
 /// One thread makes it. A trie takes two nodes for a pair at most.
 const LOAD_BOUNDS: Bounds = Bounds {
     threads: 1,
@@ -115,7 +135,7 @@ const LOAD_BOUNDS: Bounds = Bounds {
 
 impl Work {
     /// Each work once.
-    pub const ALL: [Work; 59] = [
+    pub const ALL: [Work; 67] = [
         Work::Cells(CellWork::Llx),
         Work::Cells(CellWork::Own),
         Work::Cells(CellWork::Two),
@@ -151,6 +171,14 @@ impl Work {
         Work::Trie(MapWork::RiseGet),
         Work::Trie(MapWork::Schedule),
         Work::Load(Loaded::Trie),
+        Work::Lasting(MapWork::Get),
+        Work::Lasting(MapWork::Mix { looks: 50 }),
+        Work::Lasting(MapWork::Insert),
+        Work::Lasting(MapWork::Delete),
+        Work::Lasting(MapWork::Pop),
+        Work::Lasting(MapWork::Replace),
+        Work::Lasting(MapWork::Successor),
+        Work::Lasting(MapWork::Range { most: 64 }),
         Work::Peers(MapWork::Get),
         Work::Peers(MapWork::Mix { looks: 90 }),
         Work::Peers(MapWork::Mix { looks: 50 }),
@@ -183,6 +211,7 @@ impl Work {
             Work::Cells(_) => "cells",
             Work::Tree(_) | Work::Load(Loaded::Tree) => "tree",
             Work::Trie(_) | Work::Load(Loaded::Trie) => "trie",
+            Work::Lasting(_) => "lasting",
             Work::Peers(_) => "peers",
             Work::Locked(_) | Work::Load(Loaded::Locked) => "mutex",
         }
@@ -206,6 +235,7 @@ impl Work {
     fn prefix(self) -> &'static str {
         match self {
             Work::Trie(_) | Work::Load(Loaded::Trie) => "trie_",
+            Work::Lasting(_) => "last_",
             Work::Peers(_) => "peer_",
             Work::Cells(_) | Work::Tree(_) | Work::Locked(_) | Work::Load(_) => "",
         }
@@ -215,9 +245,11 @@ impl Work {
     fn deed(self) -> &'static str {
         match self {
             Work::Cells(work) => work.name(),
-            Work::Tree(work) | Work::Trie(work) | Work::Peers(work) | Work::Locked(work) => {
-                work.name()
-            }
+            Work::Tree(work)
+            | Work::Trie(work)
+            | Work::Lasting(work)
+            | Work::Peers(work)
+            | Work::Locked(work) => work.name(),
             Work::Load(_) => "load",
         }
     }
@@ -234,6 +266,7 @@ impl Work {
         match self {
             Work::Cells(work) => work.bounds(),
             Work::Tree(work) | Work::Trie(work) | Work::Locked(work) => work.bounds(USUAL_KEYS),
+            Work::Lasting(work) => work.bounds(USUAL_KEYS).without_end(),
             Work::Peers(work) => work.bounds(KEYS_OF_PEERS),
             Work::Load(_) => LOAD_BOUNDS,
         }
@@ -251,10 +284,17 @@ impl Work {
     fn on_map(self) -> Option<MapWork> {
         match self {
             Work::Cells(_) | Work::Load(_) => None,
-            Work::Tree(work) | Work::Trie(work) | Work::Peers(work) | Work::Locked(work) => {
-                Some(work)
-            }
+            Work::Tree(work)
+            | Work::Trie(work)
+            | Work::Lasting(work)
+            | Work::Peers(work)
+            | Work::Locked(work) => Some(work),
         }
+    }
+
+    /// Whether what its passes have used up comes back.
+    pub fn lasts(self) -> bool {
+        matches!(self, Work::Lasting(_))
     }
 
     /// Whether its map has all keys at first, put in in order, and not half of them as drawn.
