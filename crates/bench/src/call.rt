@@ -4,7 +4,6 @@ ghost use Rattle.tables.specs.Passes.{IsOf};
 ghost use Rattle.bench.specs.Tally.{total};
 
 use crate::keys::{Draw, Keys};
-use crate::measured::Measured;
 use crate::tally::{End, Tally, with_reply};
 use crate::task::Task;
 use crate::work::MapWork;
@@ -18,11 +17,8 @@ pub type Numbers<B> = Dict<u64, u64, B>;
 /// The most pairs that a range may be asked for here.
 const MOST_PAIRS: usize = 64;
 
-/// After how many rounds a pass rests, if it does.
-const OFTEN: u32 = 32;
-
 /// All rounds of a thread.
-pub fn rounds<B: Measured>(
+pub fn rounds<B: Keeping>(
     alloc: Global,
     forest: &Forest<Numbers<B>>,
     task: Task,
@@ -38,16 +34,12 @@ pub fn rounds<B: Measured>(
         let draw = keys.draw(task, work, call);
         let end = round(alloc, forest, work, &mut pass, draw, &mut tally);
         tally.count(end);
-        if B::rests() && call % OFTEN == 0 {
-            B::rest(forest, &mut pass);
-        }
     }
-    B::leave(forest, pass);
     tally
 }
 
 /// A round, in which this pair may be put in.
-fn round<B: Keeping>(
+pub fn round<B: Keeping>(
     alloc: Global,
     forest: &Forest<Numbers<B>>,
     work: MapWork,

@@ -6,13 +6,12 @@ ghost use Rattle.tables.specs.Passes.{IsOf};
 use crate::call::{Numbers, rounds};
 use crate::fault::Fault;
 use crate::keys::Keys;
-use crate::measured::Measured;
 use crate::repetition::{Repetition, now, numbered};
 use crate::tally::Tally;
 use crate::task::Task;
 use crate::work::MapWork;
 use arena::Limits;
-use forest::{Forest, NewFault, Pass};
+use forest::{FilledOnce, Forest, Keeping, NewFault, Pass};
 use std::alloc::{AllocError, Global};
 use std::rt::Clock;
 use std::thread::{Threads, map_vec};
@@ -21,7 +20,7 @@ use std::thread::{Threads, map_vec};
 pub type Opened<B> = (Forest<Numbers<B>>, Vec<Pass<Numbers<B>>>);
 
 /// Makes a dictionary and fills it, and lets the threads work in it.
-pub fn run<R: Threads + Sync + Clock + AllocGlobal, B: Measured + Send>(
+pub fn run<R: Threads + Sync + Clock + AllocGlobal, B: FilledOnce + Send>(
     rt: &R,
     task: Task,
     work: MapWork,
@@ -34,8 +33,9 @@ pub fn run<R: Threads + Sync + Clock + AllocGlobal, B: Measured + Send>(
     Repetition::since(rt, start, &tallies)
 }
 
-/// A dictionary with a pass for each thread, and after these the passes that fill it.
-fn open<B: Measured>(alloc: Global, task: Task) -> Result<Opened<B>, Fault>
+/// A dictionary with a pass for each thread, and after these the passes that fill it. Shares are
+/// whole ones.
+fn open<B: FilledOnce>(alloc: Global, task: Task) -> Result<Opened<B>, Fault>
     ensures { IfOk result (λ r. All (IsOf r.0) r.1.items) }
 {
     let limits = Limits {
@@ -44,7 +44,7 @@ fn open<B: Measured>(alloc: Global, task: Task) -> Result<Opened<B>, Fault>
         scx: task.share(),
         tries: Limits::MOST_TRIES,
     };
-    match B::open(alloc, limits) {
+    match Forest::<Numbers<B>>::new(alloc, limits) {
         Ok(opened) => Ok(opened),
         Err(NewFault::NoMemory) => Err(Fault::NoMemory),
         Err(NewFault::Limits) => Err(Fault::Usage),
@@ -52,7 +52,7 @@ fn open<B: Measured>(alloc: Global, task: Task) -> Result<Opened<B>, Fault>
 }
 
 /// Puts the pairs of the start into the map, by the last passes, and answers the others.
-fn fill_up<B: Measured>(
+fn fill_up<B: FilledOnce>(
     forest: &Forest<Numbers<B>>,
     task: Task,
     mut passes: Vec<Pass<Numbers<B>>>,
@@ -64,7 +64,7 @@ fn fill_up<B: Measured>(
     for filler in 0..task.fillers() {
         if let Some(pass) = passes.pop() {
             let pairs = task.pairs_of_filler(left);
-            fill(forest, pass, task.keys_of_filler(filler), task.keys, pairs);
+            drop(fill(forest, pass, task.keys_of_filler(filler), task.keys, pairs));
             left -= pairs;
         }
     }
@@ -72,15 +72,16 @@ fn fill_up<B: Measured>(
 }
 
 /// Puts this many fresh keys of the source into the map.
-fn fill<B: Measured>(
+pub fn fill<B: Keeping>(
     forest: &Forest<Numbers<B>>,
     mut pass: Pass<Numbers<B>>,
     mut source: Keys,
     keys: u32,
     mut pairs: u32,
-)
+) -> Pass<Numbers<B>>
     requires keys { 1 ≤ keys }
     requires pass { IsOf forest.now pass }
+    ensures { IsOf forest.now result }
 {
     for _draw in 0..u32::MAX {
         if pairs == 0 {
@@ -93,11 +94,11 @@ fn fill<B: Measured>(
             Err(_) => break,
         }
     }
-    B::leave(forest, pass);
+    pass
 }
 
 /// Each pass works in a thread of its own.
-fn crowd<R: Threads + Sync, B: Measured + Send>(
+fn crowd<R: Threads + Sync, B: FilledOnce + Send>(
     rt: &R,
     alloc: Global,
     forest: &Forest<Numbers<B>>,

@@ -7,7 +7,6 @@ use crate::call::{Numbers, rounds};
 use crate::dictionary::Opened;
 use crate::fault::Fault;
 use crate::keys::Keys;
-use crate::measured::Measured;
 use crate::repetition::{Repetition, nanos_since, now};
 use crate::tally::Tally;
 use crate::task::Task;
@@ -29,10 +28,7 @@ const LIMITS: Limits = Limits {
 const LOOKS: u32 = 100;
 
 /// Makes a dictionary of as many pairs as the task has rounds, which is timed, and looks some up.
-pub fn run<R: Clock + AllocGlobal, B: FilledOnce + Measured>(
-    rt: &R,
-    task: Task,
-) -> Result<Repetition, Fault> {
+pub fn run<R: Clock + AllocGlobal, B: FilledOnce>(rt: &R, task: Task) -> Result<Repetition, Fault> {
     let alloc = rt.alloc();
     let pairs = rising(alloc, task.calls)?;
     let start = now(rt)?;

@@ -7,9 +7,9 @@ use crate::fault::Fault;
 use crate::tally::Tally;
 use crate::task::Task;
 use crate::work::{Loaded, Work};
-use crate::{cells, dictionary, load, locked};
+use crate::{cells, dictionary, lasting, load, locked};
 use dict::{ByBits, ByOrder};
-use forest::{Forest, Lasts, Pass, TableShape};
+use forest::{Forest, Pass, TableShape};
 use std::alloc::{AllocError, Global};
 use std::rt::Clock;
 use std::sync::Wait;
@@ -48,7 +48,7 @@ pub fn run<R: Threads + Wait + Sync + Clock + AllocGlobal>(
         Work::Cells(work) => cells::run(rt, task, work),
         Work::Tree(work) | Work::Peers(work) => dictionary::run::<R, ByOrder>(rt, task, work),
         Work::Trie(work) => dictionary::run::<R, ByBits>(rt, task, work),
-        Work::Lasting(work) => dictionary::run::<R, Lasts<ByOrder>>(rt, task, work),
+        Work::Lasting(work) => lasting::run(rt, task, work),
         Work::Locked(work) => locked::run(rt, task, work),
         Work::Load(Loaded::Tree) => load::run::<R, ByOrder>(rt, task),
         Work::Load(Loaded::Trie) => load::run::<R, ByBits>(rt, task),
