@@ -7,9 +7,9 @@ ghost use Rattle.bench.specs.Tally.{total};
 use crate::call::{Numbers, round};
 use crate::dictionary::{Opened, fill};
 use crate::fault::Fault;
-use crate::keys::Keys;
+use crate::keys::{Draw, Keys};
 use crate::repetition::{Repetition, now, numbered};
-use crate::tally::Tally;
+use crate::tally::{End, Tally};
 use crate::task::Task;
 use crate::work::MapWork;
 use arena::Limits;
@@ -109,7 +109,7 @@ fn rounds(
     let mut tally = Tally::default();
     for call in 0..task.calls {
         let draw = keys.draw(task, work, call);
-        let end = round(alloc, forest, work, &mut pass, draw, &mut tally);
+        let end = make_round(alloc, forest, work, &mut pass, draw, &mut tally);
         tally.count(end);
         if call % OFTEN == 0 {
             let _waits_for = forest.rest(&mut pass);
@@ -117,4 +117,26 @@ fn rounds(
     }
     drop(forest.away(pass));
     tally
+}
+
+/// A round. If the share is used up the pass rests, and makes it once more.
+fn make_round(
+    alloc: Global,
+    forest: &Forest<Kept>,
+    work: MapWork,
+    pass: &mut Pass<Kept>,
+    draw: Draw,
+    tally: &mut Tally,
+) -> End
+    requires { IsOf forest.now pass.old }
+    ensures pass { IsOf forest.now pass.new }
+    ensures total { total tally.new ≡ total tally.old }
+{
+    match round(alloc, forest, work, pass, draw, tally) {
+        End::Fail => {
+            let _waits_for = forest.rest(pass);
+            round(alloc, forest, work, pass, draw, tally)
+        }
+        end => end,
+    }
 }

@@ -56,4 +56,9 @@ impl OwnSlots {
         let spare = free.saturating_sub(self.slots.len() / 4);
         self.dealt.saturating_add(spare as u64)
     }
+
+    /// Whether its names are dealt up to this limit, and less than a quarter is left of the share.
+    pub fn is_short(&self, limit: u64, left: u32) -> bool {
+        self.dealt >= limit && (left as usize) < self.slots.len() / 4
+    }
 }

@@ -286,6 +286,15 @@ fn put_more<S: Shape>(
     }
 }
 
+/// So many slots behind the hand are looked at first.
+const NEAR: usize = 256;
+
+/// A run of fewer names is taken only where none nearby is longer.
+const FEW: usize = 16;
+
+/// No run is looked for that is longer.
+const ENOUGH: usize = 64;
+
 /// Slots that are free, one behind the other.
 #[derive(Clone, Copy)]
 struct Run {
@@ -305,7 +314,7 @@ impl OwnSlots {
         }
     }
 
-    /// The first run of three free slots between these two, or the longest that there is.
+    /// The longest run of free slots between these two, or the first that is long enough.
     fn run_between(&self, from: usize, to: usize) -> Run
         requires { to ≤ length self.now.slots.items }
         ensures { 0 < result.count → result.start < length self.now.slots.items }
@@ -318,28 +327,30 @@ impl OwnSlots {
         for i in from..to {
             if !self.is_free(i) {
                 start = i + 1;
-            } else if best.count < 3 && best.count < i + 1 - start {
+            } else if best.count < i + 1 - start {
                 best = Run {
                     start,
                     count: i + 1 - start,
                 };
             }
+            if best.count >= ENOUGH {
+                break;
+            }
         }
         best
     }
 
-    /// Where the next run of free slots begins: the first of three behind the hand, or before it,
-    /// or else the longest.
+    /// Where the next run of free slots begins: near behind the hand, or else anywhere.
     fn next_run(&self) -> Option<usize>
         ensures { IfSome result (λ i. i < length self.now.slots.items) }
     {
+        let all = self.slots.len();
         let hand = self.hand();
-        let behind = self.run_between(hand, self.slots.len());
-        let before = self.run_between(0, hand);
-        let run = if behind.count < 3 && behind.count < before.count {
-            before
+        let near = self.run_between(hand, all.min(hand + NEAR));
+        let run = if near.count < FEW {
+            self.run_between(0, all)
         } else {
-            behind
+            near
         };
         (0 < run.count).then_some(run.start)
     }

@@ -42,8 +42,8 @@ pub struct Keeper {
     period: Option<Period>,
     nodes: OwnSlots,
     scxs: OwnSlots,
-    /// Once so many names of nodes are dealt, or so many of SCX-records, a period begins: until
-    /// then a quarter of its slots is free.
+    /// Once so many names of nodes are dealt, or so many of SCX-records, less than a quarter of its
+    /// slots may be free.
     node_limit: u64,
     scx_limit: u64,
 }
@@ -171,7 +171,7 @@ impl Keeper {
         }
         self.often = rest(words, layout, seat, number, self.often);
         match self.period {
-            None => self.begin(words, layout, seat, number),
+            None => self.begin(words, layout, seat, number, left),
             Some(period) => self.go_on(words, layout, seat, number, left, period),
         }
     }
@@ -198,7 +198,7 @@ impl Keeper {
     {
         if period.poll(words, layout, seat) {
             self.turn(words, layout, seat, left);
-            self.begin(words, layout, seat, number);
+            self.begin(words, layout, seat, number, left);
         } else {
             self.period = Some(period);
         }
@@ -230,9 +230,10 @@ impl Keeper {
         self.scx_limit = self.scxs.limit();
     }
 
-    /// Whether less than a quarter of its slots may be free.
-    fn is_short(&self) -> bool {
-        self.nodes.dealt >= self.node_limit || self.scxs.dealt >= self.scx_limit
+    /// Whether less than a quarter of its slots may be free, and no more are left of its share.
+    fn is_short(&self, left: &Share) -> bool {
+        let (nodes, scxs) = left.left();
+        self.nodes.is_short(self.node_limit, nodes) || self.scxs.is_short(self.scx_limit, scxs)
     }
 
     /// Begins a period, if it is short of free slots: each period looks at all slots as it ends.
@@ -242,6 +243,7 @@ impl Keeper {
         layout: &Layout,
         seat: &mut Seat<u8, SeatView>,
         number: PassNo,
+        left: &Share,
     )
         requires { (p : SeatedPass) × (since : List Row)
             × IsAtLasting words.now layout.now seat.old p × (p.number ≡ number)
@@ -252,7 +254,7 @@ impl Keeper {
             seat.old.me.0 seat.new.me.0 }
     {
         self.period = None;
-        if self.is_short() {
+        if self.is_short(left) {
             self.period = Some(Period::begin(words, layout, seat, number));
         }
     }
