@@ -5,8 +5,9 @@ ghost use Rattle.capi.specs.Ends.{AreOfOne, held_in};
 
 use crate::answer::{Count, KeyValue, NO_PASS, NONE, PassLimits, SOME, Value, ValueAnswer};
 use crate::exports::{
-    regnubas_end, regnubas_get, regnubas_insert, regnubas_make, regnubas_make_of_pairs,
-    regnubas_make_trie, regnubas_make_trie_of_pairs, regnubas_renew,
+    regnubas_away, regnubas_back, regnubas_end, regnubas_get, regnubas_insert, regnubas_make,
+    regnubas_make_lasting, regnubas_make_lasting_trie, regnubas_make_of_pairs, regnubas_make_trie,
+    regnubas_make_trie_of_pairs, regnubas_renew, regnubas_rest,
 };
 use crate::handle::{Handle, HandleSlot};
 use std::alloc::Global;
@@ -50,6 +51,28 @@ fn made(alloc: Global, trie: bool, passes: &mut [HandleSlot]) -> bool
     }
 }
 
+/// Makes a dictionary that lasts, of these passes, a trie or a tree.
+fn made_lasting(alloc: Global, trie: bool, passes: &mut [HandleSlot]) -> bool
+    ensures { IsTrue result → AreOfOne (held_in passes.new) }
+{
+    if trie {
+        regnubas_make_lasting_trie(alloc, EACH, passes) == NONE
+    } else {
+        regnubas_make_lasting(alloc, EACH, passes) == NONE
+    }
+}
+
+/// Makes one that lasts, or not.
+fn made_so(alloc: Global, lasting: bool, trie: bool, passes: &mut [HandleSlot]) -> bool
+    ensures { IsTrue result → AreOfOne (held_in passes.new) }
+{
+    if lasting {
+        made_lasting(alloc, trie, passes)
+    } else {
+        made(alloc, trie, passes)
+    }
+}
+
 /// One of the passes puts a new key in.
 fn put_by(alloc: Global, passes: &mut [HandleSlot], at: usize, key: u64, value: Value) -> bool
     requires { AreOfOne (held_in passes.old) }
@@ -61,14 +84,14 @@ fn put_by(alloc: Global, passes: &mut [HandleSlot], at: usize, key: u64, value: 
     regnubas_insert(alloc, &mut passes[at], key, value).status == NONE
 }
 
-/// All passes of a dictionary end it, a trie or a tree.
-fn all_end_it(rt: &impl Abort, alloc: Global, trie: bool) -> Result<(), Fail> {
+/// All passes of a dictionary end it, which lasts or not, a trie or a tree.
+fn all_end_it(rt: &impl Abort, alloc: Global, lasting: bool, trie: bool) -> Result<(), Fail> {
     let mut passes = [nowhere(alloc), nowhere(alloc)];
     let mut room = [KeyValue {
         key: 0,
         value: OTHER,
     }; 4];
-    assert!(rt; made(alloc, trie, &mut passes));
+    assert!(rt; made_so(alloc, lasting, trie, &mut passes));
     assert!(rt; put_by(alloc, &mut passes, 1, 7, WIDE));
     assert!(rt; put_by(alloc, &mut passes, 0, 9, OTHER));
     let ended = regnubas_end(alloc, &mut passes, &mut room);
@@ -82,8 +105,36 @@ fn all_end_it(rt: &impl Abort, alloc: Global, trie: bool) -> Result<(), Fail> {
 
 #[test]
 fn all_passes_end_it(rt: HostRuntime) -> Result<(), Fail> {
-    all_end_it(&rt, rt.alloc(), false)?;
-    all_end_it(&rt, rt.alloc(), true)
+    for lasting in [false, true] {
+        all_end_it(&rt, rt.alloc(), lasting, false)?;
+        all_end_it(&rt, rt.alloc(), lasting, true)?;
+    }
+    Ok(())
+}
+
+/// A pass of a dictionary that lasts goes away and is back, and no other waits for it meanwhile.
+fn one_is_away(rt: &impl Abort, alloc: Global, trie: bool) -> Result<(), Fail> {
+    let mut passes = [nowhere(alloc), nowhere(alloc)];
+    let mut other = 9;
+    assert!(rt; made_lasting(alloc, trie, &mut passes));
+    let [mut one, mut own] = passes;
+    assert_eq!(rt; regnubas_rest(alloc, &mut one, &mut other), SOME);
+    assert_eq!(rt; other, 1);
+    assert_eq!(rt; regnubas_away(alloc, &mut own), NONE);
+    assert_eq!(rt; regnubas_away(alloc, &mut own), NO_PASS);
+    assert_eq!(rt; told(regnubas_get(alloc, &mut own, 7)), (NO_PASS, 0, 0));
+    assert_eq!(rt; regnubas_rest(alloc, &mut one, &mut other), NONE);
+    assert_eq!(rt; told(regnubas_insert(alloc, &mut one, 7, WIDE)), (NONE, 0, 0));
+    assert_eq!(rt; regnubas_back(alloc, &mut own), NONE);
+    assert_eq!(rt; regnubas_back(alloc, &mut own), NO_PASS);
+    assert_eq!(rt; told(regnubas_get(alloc, &mut own, 7)), (SOME, 8, 3));
+    Ok(())
+}
+
+#[test]
+fn a_pass_goes_away(rt: HostRuntime) -> Result<(), Fail> {
+    one_is_away(&rt, rt.alloc(), false)?;
+    one_is_away(&rt, rt.alloc(), true)
 }
 
 /// Makes a dictionary that begins with two pairs, a trie or a tree.
