@@ -221,9 +221,9 @@ class Pass(MutableMapping[int, int]):
         changes: int | None = None,
         new_keys: int | None = None,
     ) -> list[Pass]:
-        """Ends the dictionary by its last pass, and begins the next, of the same shape, with its
-        pairs; the next is not `lasting`. A pass for each thread; limits as of `make`. Where the next is refused, `NotRenewed`
-        has the pairs.
+        """Ends the dictionary by its last pass, and begins the next, of the same shape and never
+        `lasting`, with its pairs. A pass for each thread; limits as of `make`. Where the next is
+        refused, `NotRenewed` has the pairs.
 
         >>> [m] = make(threads=1, changes=1)
         >>> m[5] = 50

@@ -176,7 +176,10 @@ fn take_tree(
         let Some(client) = handle.into_box() else {
             return None;
         };
-        let Client::Here(OwnedPass::Tree(held)) = Box::into_inner(client) else {
+        let Client::Here(own) = Box::into_inner(client) else {
+            return None;
+        };
+        let OwnedPass::Tree(held) = own else {
             return None;
         };
         let Held {
@@ -228,7 +231,10 @@ fn take_trie(
         let Some(client) = handle.into_box() else {
             return None;
         };
-        let Client::Here(OwnedPass::Trie(held)) = Box::into_inner(client) else {
+        let Client::Here(own) = Box::into_inner(client) else {
+            return None;
+        };
+        let OwnedPass::Trie(held) = own else {
             return None;
         };
         let Held {

@@ -81,7 +81,10 @@ fn take_lasting_tree(
         let Some(client) = handle.into_box() else {
             return None;
         };
-        let Client::Here(OwnedPass::LastingTree(held)) = Box::into_inner(client) else {
+        let Client::Here(own) = Box::into_inner(client) else {
+            return None;
+        };
+        let OwnedPass::LastingTree(held) = own else {
             return None;
         };
         let Held {
@@ -138,7 +141,10 @@ fn take_lasting_trie(
         let Some(client) = handle.into_box() else {
             return None;
         };
-        let Client::Here(OwnedPass::LastingTrie(held)) = Box::into_inner(client) else {
+        let Client::Here(own) = Box::into_inner(client) else {
+            return None;
+        };
+        let OwnedPass::LastingTrie(held) = own else {
             return None;
         };
         let Held {

@@ -124,7 +124,10 @@ fn one_is_away(rt: &impl Abort, alloc: Global, trie: bool) -> Result<(), Fail> {
     assert_eq!(rt; regnubas_away(alloc, &mut own), NO_PASS);
     assert_eq!(rt; told(regnubas_get(alloc, &mut own, 7)), (NO_PASS, 0, 0));
     assert_eq!(rt; regnubas_rest(alloc, &mut one, &mut other), NONE);
-    assert_eq!(rt; told(regnubas_insert(alloc, &mut one, 7, WIDE)), (NONE, 0, 0));
+    assert_eq!(rt;
+        told(regnubas_insert(alloc, &mut one, 7, WIDE)),
+        (NONE, 0, 0)
+    );
     assert_eq!(rt; regnubas_back(alloc, &mut own), NONE);
     assert_eq!(rt; regnubas_back(alloc, &mut own), NO_PASS);
     assert_eq!(rt; told(regnubas_get(alloc, &mut own, 7)), (SOME, 8, 3));

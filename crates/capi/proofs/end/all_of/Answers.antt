@@ -15,8 +15,8 @@ returns-in_default-clause-same c = kept c.loop-place.passes c.loop-place.place-i
 pub returns-in_default-clause-none : goal.returns-in_default-clause-none
 returns-in_default-clause-none c = λ held.
     let inside : c.loop-place.place-index < length c.loop-place.passes = omega (arith, c.loop-place.auto.passes, c.loop-place-test.true) in
-    let here = subst (All IsThere) (sym c.loop-place.invariant.same) held.1 in
-    none_told c.place-item.result.handle.value (c.in_default.ensures.all ∙ ap (λ (p : HandleSlot). option_map pass_count (here p.handle.value)) (sym c.place-item.is)) (one_of c.loop-place.passes c.loop-place.place-index c.place-item.result c.place-item.result c.place-item.is IsThere inside here)
+    let there = subst (All IsThere) (sym c.loop-place.invariant.same) held.1 in
+    none_told c.place-item.result.handle.value (c.in_default.ensures.all ∙ ap (λ (p : HandleSlot). option_map pass_count (here p.handle.value)) (sym c.place-item.is)) (one_of c.loop-place.passes c.loop-place.place-index c.place-item.result c.place-item.result c.place-item.is IsThere inside there)
 
 pub loop-place-preserved : goal.loop-place-preserved
 loop-place-preserved c =
