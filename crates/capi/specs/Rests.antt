@@ -1,6 +1,5 @@
 -- What passes of dictionaries that last do between two calls: they rest, go away and come back.
 use Rattle.std.specs.Prelude.{◌≡◌, ◌≢◌, ◌<◌, ℕ, true, Option, Some, None, IfSome, Result, Ok, Err}
-use Rattle.std.specs.Arc.{arc_value}
 use Rattle.std.specs.Global.{Global}
 use Rattle.std.specs.declared.sync.Arc.{Arc}
 use Rattle.arena.specs.declared.number.PassNo.{PassNo}

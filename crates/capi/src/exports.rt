@@ -492,7 +492,8 @@ pub extern "C" fn regnubas_left(alloc: Global, pass: &mut HandleSlot) -> Left
     left
 }
 
-/// Gives the pass up. The last to leave frees the dictionary.
+/// Gives the pass up; where its dictionary lasts it goes away by that. The last to leave frees the
+/// dictionary.
 #[unsafe(no_mangle)]
 pub extern "C" fn regnubas_leave(alloc: Global, pass: &mut HandleSlot)
     ensures { pass.new.handle.value ≡ None }
