@@ -11,17 +11,26 @@
 #define CHECK(what) \
     do { if (!(what)) { std::fprintf(stderr, "%s:%d: %s (refusing %ld)\n", __FILE__, __LINE__, #what, refuse); std::abort(); } } while (0)
 
+// A pass rests, goes away and comes back, for which no memory is asked.
+static void rest(regnubas_pass *pass) {
+    const long before = asked;
+    uint32_t other = 0;
+    CHECK(regnubas_rest(pass, &other) == REGNUBAS_SOME);
+    CHECK(regnubas_away(pass) == REGNUBAS_NONE && regnubas_back(pass) == REGNUBAS_NONE && asked == before);
+}
+
 // Whether all was done. All passes end it, or the last of them.
-static bool story(bool by_all) {
+static bool story(bool by_all, bool lasting) {
     asked = 0;
     regnubas_pass passes[3] = {};
-    uint32_t made = regnubas_make({300, 100, 2}, passes, 3);
+    uint32_t made = (lasting ? regnubas_make_lasting : regnubas_make)({300, 100, 2}, passes, 3);
     if (made != REGNUBAS_NONE) {
         CHECK(made == REGNUBAS_NO_MEMORY && blocks == 0);
         for (regnubas_pass &pass : passes) CHECK(pass.at == nullptr);
         return false;
     }
     bool all = true;
+    if (lasting) rest(&passes[1]);
     for (uint64_t k = 0; k < 90; k++) CHECK(regnubas_insert(&passes[0], 2 * k, {k, ~k}).status == REGNUBAS_NONE);
     CHECK(regnubas_insert(&passes[1], 1, {4, 4}).status == REGNUBAS_NONE);
     CHECK(regnubas_replace_if(&passes[1], 1, {4, 4}, {5, 6}).value.high == 4);
@@ -110,7 +119,8 @@ template <typename Story> static void refuse_each(Story story) {
 
 int main() {
     for (bool once : {false, true}) {
-        refuse_each([once] { return story(once); });
+        refuse_each([once] { return story(once, false); });
+        refuse_each([once] { return story(once, true); });
         refuse_each([once] { return renewed(once); });
     }
     return 0;

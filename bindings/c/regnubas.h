@@ -17,7 +17,7 @@
  *  5. The passes that regnubas_end or regnubas_renew is given are of one dictionary.
  *
  * Calls on different passes may overlap as they like: each takes effect at one moment between its
- * begin and its end. A call on a pass that is empty, was left or was closed answers
+ * begin and its end. A call on a pass that is empty, was left, was closed or is away answers
  * REGNUBAS_NO_PASS. */
 #ifndef REGNUBAS_H
 #define REGNUBAS_H
@@ -36,7 +36,7 @@ typedef struct regnubas_pass {
     uint64_t unused[7];
 } regnubas_pass;
 
-/* What each pass may take in the life of the dictionary. */
+/* What each pass may take in the life of the dictionary; in one that lasts, at a time. */
 typedef struct regnubas_limits {
     uint32_t nodes; /* 0 to 32768: a change takes 1 in a try; the first key, or a new one in a
                      * full leaf, 3; in a trie a new one far from all others, 2 */
@@ -74,7 +74,8 @@ enum {
     REGNUBAS_NONE = 0,      /* done: there is no value or pair, or was none */
     REGNUBAS_SOME = 1,      /* done: there is a value, a pair, a number of pairs */
     REGNUBAS_CONTENDED = 2, /* not done: other passes were in the way in each try; ask again */
-    REGNUBAS_FULL = 3,      /* not done: too little is left of the pass's share, which never grows */
+    REGNUBAS_FULL = 3,      /* not done: too little is left of the pass's share, which grows only where
+                             * the dictionary lasts, as passes rest */
     REGNUBAS_NO_MEMORY = 4, /* not done: an allocation was refused */
     REGNUBAS_LIMITS = 5,    /* not made: a number is out of its range */
     REGNUBAS_NO_PASS = 6,   /* not done: there is no pass here */
@@ -91,7 +92,12 @@ uint32_t regnubas_make(regnubas_limits each, regnubas_pass *passes, size_t count
  * either; USING.md says which to take. */
 uint32_t regnubas_make_trie(regnubas_limits each, regnubas_pass *passes, size_t count);
 
-/* The same, but the dictionary begins with these pairs, each key above the one before: its tree is
+/* The same, a tree or a trie, but the dictionary lasts: what its passes have used up comes back to
+ * them as they rest, so `each` is of what is in use at a time. A call makes one try. */
+uint32_t regnubas_make_lasting(regnubas_limits each, regnubas_pass *passes, size_t count);
+uint32_t regnubas_make_lasting_trie(regnubas_limits each, regnubas_pass *passes, size_t count);
+
+/* A tree that does not last, but begins with these pairs, each key above the one before: it is
  * balanced, its leaves are full, and nothing of a pass's share is taken for it. There is room for
  * 2^20 nodes in all: passes * nodes, and two for each four pairs (in a trie up to two for each). NONE;
  * or LIMITS, ORDER, TOO_MANY or NO_MEMORY: then the passes are as they were. */
@@ -141,10 +147,26 @@ uint32_t regnubas_predecessor(regnubas_pass *pass, uint64_t key, regnubas_pair *
 regnubas_count regnubas_range(regnubas_pass *pass, uint64_t low, uint64_t high,
                               regnubas_pair *pairs, size_t count);
 
-/* What is left of the pass's share; zeros where there is no pass. */
+/* The pass of a dictionary that lasts rests, between two calls, ten or a hundred of them. SOME: it
+ * waits for another, whose place among the passes that were made is at `other`; NONE: for nobody. A
+ * pass that neither rests nor is away holds up all others. It takes no memory. A pass of a dictionary
+ * that does not last is as it was: NONE. */
+uint32_t regnubas_rest(regnubas_pass *pass, uint32_t *other);
+
+/* The pass of a dictionary that lasts goes away, before a while without calls: no other waits for it,
+ * and until it is back each call on it answers NO_PASS, but regnubas_leave, which gives it up. NONE;
+ * or NO_PASS, also where the dictionary does not last: nothing is done. */
+uint32_t regnubas_away(regnubas_pass *pass);
+
+/* It is back, with what was left of its share. NONE; or NO_PASS, where no pass was away: nothing is
+ * done. */
+uint32_t regnubas_back(regnubas_pass *pass);
+
+/* What is left of the pass's share; zeros where there is no pass, or it is away. */
 regnubas_share regnubas_left(regnubas_pass *pass);
 
-/* Gives the pass up. With the last pass the dictionary is freed. */
+/* Gives the pass up; where its dictionary lasts it goes away by that. With the last pass the
+ * dictionary is freed. */
 void regnubas_leave(regnubas_pass *pass);
 
 /* Ends the dictionary, once all other passes have left, and writes its first pairs, `count` at the
@@ -164,7 +186,7 @@ regnubas_count regnubas_end(regnubas_pass *passes, size_t passes_count, regnubas
                             size_t count);
 
 /* The same, and all its pairs begin the next dictionary, of the same shape, with as many passes,
- * which are put in the place of these. SOME with the number of all its pairs. LIMITS, NO_PASS or
+ * which are put in the place of these; the next does not last, also where this one did. SOME with the number of all its pairs. LIMITS, NO_PASS or
  * SHARED: the passes are as they were. TOO_MANY or NO_MEMORY: the passes are empty, and the pairs
  * have been written, `count` at the most, for regnubas_make_of_pairs with other limits, or later; but
  * NO_MEMORY with no pairs may also mean that the dictionary is gone, as in regnubas_end. */

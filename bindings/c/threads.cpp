@@ -1,7 +1,7 @@
 // Four threads on one dictionary, through the header: each sets keys of its own, reads another's and
 // takes a third of its own away, and all count in one key; each key that all four set if it is new
 // has one of them as its setter; two empty a queue from its front and two from its back. Before that
-// each status is met, and dictionaries begin with pairs and are renewed. `threads N` does so N times. Values have bits in both their words.
+// each status is met, and dictionaries begin with pairs and are renewed, or last. `threads N` does so N times. Values have bits in both their words.
 #include "regnubas.h"
 
 #include <algorithm>
@@ -367,6 +367,34 @@ template <typename Make> void renewals(Make make, uint32_t far_nodes) {
     for (regnubas_pass &pass : passes) regnubas_leave(&pass);
 }
 
+// One pass rests, and waits for the other until that is away; an end waits for nobody.
+void one_that_lasts(decltype(regnubas_make) make) {
+    regnubas_pass passes[2] = {};
+    regnubas_pair pairs[2] = {};
+    uint32_t other = 9;
+    CHECK(make(regnubas_limits{9, 9, 1}, passes, 2) == REGNUBAS_NONE);
+    CHECK(regnubas_back(&passes[1]) == REGNUBAS_NO_PASS && is(regnubas_insert(&passes[1], 7, {70, 1}), REGNUBAS_NONE, ZERO));
+    CHECK(regnubas_rest(&passes[0], &other) == REGNUBAS_SOME && other == 1);
+    CHECK(regnubas_away(&passes[1]) == REGNUBAS_NONE && regnubas_away(&passes[1]) == REGNUBAS_NO_PASS);
+    CHECK(is(regnubas_get(&passes[1], 7), REGNUBAS_NO_PASS, ZERO) && regnubas_left(&passes[1]).nodes == 0);
+    CHECK(regnubas_rest(&passes[1], &other) == REGNUBAS_NO_PASS && is(regnubas_close(&passes[1], pairs, 2), REGNUBAS_NO_PASS, 0));
+    for (uint64_t i = 0; i < 100; i++) { // shares of nine are enough, since they come back
+        CHECK(regnubas_insert(&passes[0], 5, {i, 1}).status <= REGNUBAS_SOME);
+        CHECK(regnubas_rest(&passes[0], &other) == REGNUBAS_NONE);
+    }
+    CHECK(is(regnubas_end(passes, 2, pairs, 2), REGNUBAS_NO_PASS, 0));
+    CHECK(regnubas_back(&passes[1]) == REGNUBAS_NONE && is(regnubas_get(&passes[1], 5), REGNUBAS_SOME, {99, 1}));
+    CHECK(is(regnubas_end(passes, 2, pairs, 2), REGNUBAS_SOME, 2) && has(pairs[0], 5, {99, 1}) && has(pairs[1], 7, {70, 1}));
+    CHECK(make(regnubas_limits{9, 9, 1}, passes, 2) == REGNUBAS_NONE && regnubas_away(&passes[0]) == REGNUBAS_NONE);
+    regnubas_leave(&passes[0]); // one that is away leaves
+    CHECK(regnubas_back(&passes[0]) == REGNUBAS_NO_PASS && regnubas_away(&passes[0]) == REGNUBAS_NO_PASS);
+    CHECK(is(regnubas_insert(&passes[1], 7, {70, 1}), REGNUBAS_NONE, ZERO) && is(regnubas_close(&passes[1], pairs, 2), REGNUBAS_SOME, 1));
+    CHECK(regnubas_make(regnubas_limits{9, 9, 1}, passes, 1) == REGNUBAS_NONE); // one that does not last
+    CHECK(regnubas_away(&passes[0]) == REGNUBAS_NO_PASS && regnubas_back(&passes[0]) == REGNUBAS_NO_PASS);
+    CHECK(regnubas_rest(&passes[0], &other) == REGNUBAS_NONE && is(regnubas_get(&passes[0], 7), REGNUBAS_NONE, ZERO));
+    regnubas_leave(&passes[0]);
+}
+
 } // namespace
 
 int main(int argc, char **argv) {
@@ -380,6 +408,8 @@ int main(int argc, char **argv) {
     pairs_to_begin_with(regnubas_make_trie_of_pairs);
     renewals(regnubas_make, 3);
     renewals(regnubas_make_trie, 2);
+    one_that_lasts(regnubas_make_lasting);
+    one_that_lasts(regnubas_make_lasting_trie);
     for (int rounds = argc > 1 ? std::atoi(argv[1]) : 1; rounds > 0; rounds--) {
         keys_and_counter(regnubas_make, close_all);
         keys_and_counter(regnubas_make_trie, end_all);

@@ -46,10 +46,10 @@ using pair = std::pair<key, value>;
 // Why a call is refused.
 enum class status : std::uint32_t {
     contended = REGNUBAS_CONTENDED, // other passes were in the way in each try: ask again
-    full = REGNUBAS_FULL,           // too little is left of the pass's share, which never grows
+    full = REGNUBAS_FULL,           // too little is left of the pass's share
     no_memory = REGNUBAS_NO_MEMORY, // an allocation was refused
     limits = REGNUBAS_LIMITS,       // a number is out of its range
-    no_pass = REGNUBAS_NO_PASS,     // the pass is empty, was moved from, has left or was closed
+    no_pass = REGNUBAS_NO_PASS,     // the pass is empty, was moved from, has left, was closed or is away
     shared = REGNUBAS_SHARED,       // other passes have not left
     order = REGNUBAS_ORDER,         // the keys of the pairs do not rise
     too_many = REGNUBAS_TOO_MANY    // there are more pairs than there is room for
@@ -159,6 +159,18 @@ public:
         return try_make(count, each, is).get();
     }
 
+    // One that lasts: what its passes have used up comes back to them as they rest, so `each` is of
+    // what is in use at a time.
+    static result<std::vector<pass>> try_make_lasting(std::size_t count, regnubas_limits each,
+                                                      shape is = shape::tree) {
+        return made(count, count * each.nodes, is, [=](regnubas_pass *raw) {
+            return (is == shape::trie ? regnubas_make_lasting_trie : regnubas_make_lasting)(each, raw, count);
+        });
+    }
+    static std::vector<pass> make_lasting(std::size_t count, regnubas_limits each, shape is = shape::tree) {
+        return try_make_lasting(count, each, is).get();
+    }
+
     // One that begins with the pairs from `first` on, each key above the one before: `pass::of_pairs(
     // map.begin(), map.end(), 4, limits)` of a `std::map<key, value>`. It is balanced, and takes
     // nothing of a pass's share.
@@ -254,7 +266,23 @@ public:
     // All pairs from `low` to `high`, both with them, for a range-for: each 64 of one moment.
     inline between items(key low = 0, key high = std::numeric_limits<key>::max());
 
-    // What is left of the share; zeros where there is no pass.
+    // Rests between two calls, where the dictionary lasts; the place of the pass that it waits for
+    // among those that were made.
+    result<std::optional<std::uint32_t>> try_rest() {
+        std::uint32_t other = 0;
+        const std::uint32_t told = regnubas_rest(&raw_, &other);
+        if (told == REGNUBAS_NONE) return std::optional<std::uint32_t>();
+        if (told == REGNUBAS_SOME) return std::optional<std::uint32_t>(other);
+        return static_cast<status>(told);
+    }
+    std::optional<std::uint32_t> rest() { return try_rest().get(); }
+
+    // Goes away before a while without calls, so that no other pass waits for this one; comes back.
+    // Whether it did: it was there, and its dictionary lasts; it was away.
+    bool away() noexcept { return regnubas_away(&raw_) == REGNUBAS_NONE; }
+    bool back() noexcept { return regnubas_back(&raw_) == REGNUBAS_NONE; }
+
+    // What is left of the share; zeros where there is no pass, or it is away.
     regnubas_share left() { return regnubas_left(&raw_); }
 
     // Gives the pass up. With the last pass the dictionary is freed.
@@ -271,8 +299,8 @@ public:
     }
     std::vector<pair> close() { return try_close().get(); }
 
-    // Ends the dictionary, once all other passes have left, and begins the next of this shape with its
-    // pairs. They are left in `pairs`, also where the next is refused.
+    // Ends the dictionary, once all other passes have left, and begins the next of this shape, which
+    // does not last, with its pairs. They are left in `pairs`, also where the next is refused.
     result<std::vector<pass>> try_renew(std::size_t count, regnubas_limits each, std::vector<pair> &pairs) {
         auto closed = try_close();
         if (!closed) return closed.why();

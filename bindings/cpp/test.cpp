@@ -185,6 +185,28 @@ void it_is_renewed(regnubas::shape is) {
     CHECK(passes[0].try_renew(1, LIMITS, left).why() == status::no_pass);
 }
 
+// Far more changes than a share has room for: each pass rests, the last is away meanwhile.
+void one_that_lasts(regnubas::shape is) {
+    constexpr std::uint64_t THREADS = 3, CHANGES = 3000;
+    auto passes = pass::make_lasting(THREADS + 1, {64, 64, 1}, is);
+    pass &away = passes[THREADS];
+    CHECK(!away.back() && away.away() && !away.away() && why([&] { away.get(1); }) == status::no_pass);
+    std::vector<std::thread> threads;
+    for (std::uint64_t t = 0; t < THREADS; t++)
+        threads.emplace_back([&own = passes[t], t] {
+            for (std::uint64_t i = 0; i < CHANGES; i++) {
+                while (!own.try_insert(t, {i, t})) own.rest();
+                own.rest();
+            }
+            own.leave();
+        });
+    for (auto &thread : threads) thread.join();
+    CHECK(away.back() && away.get(1) == value(CHANGES - 1, 1) && !away.rest());
+    CHECK(away.close().size() == THREADS);
+    auto other = pass::make(1, LIMITS, is);
+    CHECK(!other[0].away() && !other[0].back() && !other[0].rest() && !other[0].insert(5, 50));
+}
+
 } // namespace
 
 int main() {
@@ -202,6 +224,7 @@ int main() {
     for (regnubas::shape is : {regnubas::shape::tree, regnubas::shape::trie}) {
         it_begins_with_pairs(is);
         it_is_renewed(is);
+        one_that_lasts(is);
     }
-    std::puts("each call, each refusal, ranges, limits, four threads, pairs to begin with, ten renewals");
+    std::puts("each call, each refusal, ranges, limits, four threads, pairs to begin with, ten renewals, one that lasts");
 }

@@ -279,6 +279,44 @@ def test_a_pass_leaves_after_its_with():
     assert other.close() == [(5, 50)]
 
 
+def turn_about(key, one, failures):
+    try:
+        for time in range(3000):
+            while True:
+                try:
+                    one.insert(key, time)
+                    break
+                except (regnubas.Contended, regnubas.Full):
+                    one.rest()
+            one.rest()
+        one.leave()
+    except BaseException as failure:
+        failures.append(failure)
+
+
+def test_one_that_lasts():
+    """Far more changes than a share has room for; the last pass is away meanwhile."""
+    for trie in False, True:
+        passes, failures = regnubas.make(threads=4, nodes=64, scx=64, trie=trie, lasting=True), []
+        own = passes.pop()
+        refused(regnubas.NoPass, own.back)
+        own.away()
+        refused(regnubas.NoPass, own.away)
+        refused(regnubas.NoPass, own.get, 1)
+        threads = [threading.Thread(target=turn_about, args=(t, passes[t], failures)) for t in range(3)]
+        for thread in threads:
+            thread.start()
+        for thread in threads:
+            thread.join()
+        assert not failures, failures
+        own.back()
+        assert own[1] == 2999 and own.rest() is None
+        assert own.close() == [(key, 2999) for key in range(3)]
+    [one] = regnubas.make(threads=1, changes=10)
+    refused(regnubas.NoPass, one.away)
+    assert one.rest() is None
+
+
 def test_threads_may_share_a_pass():
     """Eight threads of Python add up in one key, with two passes: four take turns on each."""
     passes = regnubas.make(threads=2, changes=8000, new_keys=200)

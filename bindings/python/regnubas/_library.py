@@ -47,6 +47,8 @@ def _load() -> ctypes.CDLL:
     for name, result, arguments in [
         ("make_of_pairs", c_uint32, [RawLimits, room, c_size_t, one, c_size_t]),
         ("make_trie_of_pairs", c_uint32, [RawLimits, room, c_size_t, one, c_size_t]),
+        ("make_lasting", c_uint32, [RawLimits, one, c_size_t]),
+        ("make_lasting_trie", c_uint32, [RawLimits, one, c_size_t]),
         ("get", Answer, [one, word]),
         ("insert", Answer, [one, word, Value]),
         ("insert_new", Answer, [one, word, Value]),
@@ -58,6 +60,9 @@ def _load() -> ctypes.CDLL:
         ("successor", c_uint32, [one, word, room]),
         ("predecessor", c_uint32, [one, word, room]),
         ("range", Count, [one, word, word, room, c_size_t]),
+        ("rest", c_uint32, [one, POINTER(c_uint32)]),
+        ("away", c_uint32, [one]),
+        ("back", c_uint32, [one]),
         ("left", Share, [one]),
         ("leave", None, [one]),
         ("close", Count, [one, room, c_size_t]),

@@ -4,7 +4,7 @@ from __future__ import annotations
 import threading
 from collections.abc import Callable, ItemsView, Iterable, Iterator, Mapping, MutableMapping
 from collections.abc import ValuesView
-from ctypes import byref
+from ctypes import Array, byref, c_uint32
 from typing import Any, NoReturn, TypeVar, overload
 
 from ._faults import Contended, Fault, NotRenewed, is_some
@@ -158,6 +158,33 @@ class Pass(MutableMapping[int, int]):
         """
         return self._listed(library.regnubas_range, min(most, _CHUNK), word(low), word(high))
 
+    def rest(self) -> int | None:
+        """Rests, between two calls: the place of the pass that it waits for, among those that were
+        made, or None. A pass of a dictionary that lasts that neither rests nor is away holds up all
+        others; one of another dictionary waits for nobody.
+
+        >>> one, other = make(threads=2, nodes=64, scx=64, lasting=True)
+        >>> one.rest(), other.away(), one.rest()
+        (1, None, None)
+        """
+        other = c_uint32()
+        found = is_some(self._call(library.regnubas_rest, byref(other)))
+        return other.value if found else None
+
+    def away(self) -> None:
+        """Goes away, before a while without calls, so that no other pass waits for this one: until
+        `back` each call raises `NoPass`, as does this one where the dictionary does not last.
+
+        >>> one, other = make(threads=2, nodes=64, scx=64, lasting=True)
+        >>> one.away(); other[5] = 50; one.back(); one[5]
+        50
+        """
+        is_some(self._call(library.regnubas_away))
+
+    def back(self) -> None:
+        """Is back. `NoPass` where it was not away."""
+        is_some(self._call(library.regnubas_back))
+
     def left(self) -> tuple[int, int]:
         """How many nodes and SCX-records are left of the pass's share.
 
@@ -194,9 +221,9 @@ class Pass(MutableMapping[int, int]):
         changes: int | None = None,
         new_keys: int | None = None,
     ) -> list[Pass]:
-        """Ends the dictionary by its last pass, and begins the next, of the same shape, with its
-        pairs. A pass for each thread; limits as of `make`. Where the next is refused, `NotRenewed`
-        has the pairs.
+        """Ends the dictionary by its last pass, and begins the next, of the same shape and never
+        `lasting`, with its pairs. A pass for each thread; limits as of `make`. Where the next is
+        refused, `NotRenewed` has the pairs.
 
         >>> [m] = make(threads=1, changes=1)
         >>> m[5] = 50
@@ -386,7 +413,20 @@ def _begun(threads: int, each: RawLimits, pairs: list[tuple[int, int]], trie: bo
     for place, (key, value) in zip(room, pairs):
         place.key, place.value = word(key), two_words(value)
     is_some(begin(each, room, len(pairs), raw, threads))
-    made = [Pass(threads * each.nodes + len(pairs), trie) for _ in range(threads)]
+    return _passes_of(raw, threads * each.nodes + len(pairs), trie)
+
+
+def _lasting(threads: int, each: RawLimits, trie: bool) -> list[Pass]:
+    """The passes of a dictionary that lasts."""
+    begin = library.regnubas_make_lasting_trie if trie else library.regnubas_make_lasting
+    raw = (RawPass * threads)()
+    is_some(begin(each, raw, threads))
+    return _passes_of(raw, threads * each.nodes, trie)
+
+
+def _passes_of(raw: Array[RawPass], most: int, trie: bool) -> list[Pass]:
+    """The passes that C has made."""
+    made = [Pass(most, trie) for _ in raw]
     for own, old in zip(made, raw):
         own._raw.at, old.at = old.at, None
     return made
@@ -401,6 +441,7 @@ def make(
     changes: int | None = None,
     new_keys: int | None = None,
     trie: bool = False,
+    lasting: bool = False,
 ) -> list[Pass]:
     """A dictionary with a pass for each thread, 1 to 32.
 
@@ -422,8 +463,19 @@ def make(
     >>> m.update((key, 50) for key in range(1000))
     >>> m.pop_first()
     (0, 50)
+
+    Where it is `lasting`, what its passes have used up comes back to them as they `rest`: `nodes` and
+    `scx` are of what is in use at a time, and a call makes one try.
+
+    >>> [m] = make(threads=1, nodes=64, scx=64, lasting=True)
+    >>> for time in range(1000): m[5] = time; m.rest()
+    >>> m[5]
+    999
     """
-    return _begun(word(threads, 16), _limits(nodes, scx, tries, changes, new_keys), [], trie)
+    each = _limits(nodes, scx, tries, changes, new_keys)
+    if lasting:
+        return _lasting(word(threads, 16), each, trie)
+    return _begun(word(threads, 16), each, [], trie)
 
 
 def of_pairs(

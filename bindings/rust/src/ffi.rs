@@ -75,6 +75,8 @@ extern "C" {
         passes: *mut RawPass,
         count: usize,
     ) -> u32;
+    pub fn regnubas_make_lasting(each: Limits, passes: *mut RawPass, count: usize) -> u32;
+    pub fn regnubas_make_lasting_trie(each: Limits, passes: *mut RawPass, count: usize) -> u32;
     pub fn regnubas_get(pass: *mut RawPass, key: u64) -> Answer;
     pub fn regnubas_insert(pass: *mut RawPass, key: u64, value: Value) -> Answer;
     pub fn regnubas_insert_new(pass: *mut RawPass, key: u64, value: Value) -> Answer;
@@ -97,6 +99,9 @@ extern "C" {
         pairs: *mut Pair,
         count: usize,
     ) -> Count;
+    pub fn regnubas_rest(pass: *mut RawPass, other: *mut u32) -> u32;
+    pub fn regnubas_away(pass: *mut RawPass) -> u32;
+    pub fn regnubas_back(pass: *mut RawPass) -> u32;
     pub fn regnubas_left(pass: *mut RawPass) -> Share;
     pub fn regnubas_leave(pass: *mut RawPass);
     pub fn regnubas_close(pass: *mut RawPass, pairs: *mut Pair, count: usize) -> Count;

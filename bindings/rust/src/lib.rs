@@ -26,7 +26,9 @@ mod range;
 
 pub use fault::{CloseFault, Fault, RenewFault};
 pub use limits::{Limits, Share};
-pub use pass::{make, make_trie, of_pairs, trie_of_pairs, Pass};
+pub use pass::{
+    make, make_lasting, make_lasting_trie, make_trie, of_pairs, trie_of_pairs, Away, Pass,
+};
 pub use range::Range;
 
 /// Calls until other passes do not interfere.

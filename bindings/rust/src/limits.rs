@@ -1,6 +1,7 @@
 //! What a pass may take.
 
-/// What each pass may take in the life of the dictionary, of which nothing is ever given back.
+/// What each pass may take in the life of the dictionary, of which nothing is ever given back; in one
+/// that lasts, at a time.
 ///
 /// ```
 /// use regnubas::{make, Limits, Share};

@@ -65,6 +65,48 @@ pub fn make_trie(passes: usize, each: Limits) -> Result<Vec<Pass>, Fault> {
     begun(passes, each, &[], true)
 }
 
+/// A dictionary that lasts: what its passes have used up comes back to them as they
+/// [`rest`](Pass::rest), so the limits are of what is in use at a time. A call makes one try.
+///
+/// ```
+/// use regnubas::{make_lasting, Limits};
+///
+/// let mut pass = make_lasting(1, Limits { nodes: 64, scx: 64, tries: 1 })?.remove(0);
+/// for time in 0..1000 {
+///     pass.insert(5, time)?;
+///     assert_eq!(pass.rest(), None);
+/// }
+/// # Ok::<(), regnubas::Fault>(())
+/// ```
+pub fn make_lasting(passes: usize, each: Limits) -> Result<Vec<Pass>, Fault> {
+    lasting(passes, each, false)
+}
+
+/// The same, but a trie.
+///
+/// ```
+/// use regnubas::{make_lasting_trie, Limits};
+///
+/// let mut pass = make_lasting_trie(1, Limits { nodes: 64, scx: 64, tries: 1 })?.remove(0);
+/// assert_eq!(pass.insert(5, 50)?, None);
+/// # Ok::<(), regnubas::Fault>(())
+/// ```
+pub fn make_lasting_trie(passes: usize, each: Limits) -> Result<Vec<Pass>, Fault> {
+    lasting(passes, each, true)
+}
+
+fn lasting(passes: usize, each: Limits, trie: bool) -> Result<Vec<Pass>, Fault> {
+    if passes > 32 {
+        return Err(Fault::Limits);
+    }
+    let make = if trie { regnubas_make_lasting_trie } else { regnubas_make_lasting };
+    let mut raw: Vec<RawPass> = (0..passes).map(|_| RawPass::EMPTY).collect();
+    // SAFETY: these are `passes` zeroed passes, and no one else has them.
+    is_some(unsafe { make(each, raw.as_mut_ptr(), raw.len()) })?;
+    let most = passes * each.nodes as usize;
+    Ok(raw.into_iter().map(|raw| Pass { raw, most, trie }).collect())
+}
+
 /// A dictionary that begins with these pairs, each key above the one before. Its tree is balanced,
 /// and nothing of a pass's share is taken for it. There is room for 2^20 nodes in all: those of the
 /// passes, and two for each four pairs.
@@ -346,6 +388,40 @@ impl Pass {
         Ok(room[..count.pairs as usize].iter().map(Pair::numbers).collect())
     }
 
+    /// Rests, between two calls: returns the place of the pass that it waits for, among those that
+    /// were made. A pass of a dictionary that lasts that neither rests nor is away holds up all
+    /// others; one of another dictionary waits for nobody.
+    ///
+    /// ```
+    /// use regnubas::{make_lasting, Limits};
+    ///
+    /// let mut passes = make_lasting(2, Limits { nodes: 64, scx: 64, tries: 1 })?;
+    /// assert_eq!(passes[0].rest(), Some(1));
+    /// # Ok::<(), regnubas::Fault>(())
+    /// ```
+    pub fn rest(&mut self) -> Option<u32> {
+        let mut other = 0;
+        let status = unsafe { regnubas_rest(&mut self.raw, &mut other) };
+        is_some(status).expect("a rest is never refused").then_some(other)
+    }
+
+    /// Goes away, before a while without calls, so that no other pass waits for this one.
+    ///
+    /// ```
+    /// use regnubas::{make_lasting, Limits};
+    ///
+    /// let mut passes = make_lasting(2, Limits { nodes: 64, scx: 64, tries: 1 })?;
+    /// let away = passes.remove(1).away();
+    /// assert_eq!(passes[0].rest(), None);
+    /// passes[0].insert(5, 50)?;
+    /// assert_eq!(away.back().get(5), Some(50));
+    /// # Ok::<(), regnubas::Fault>(())
+    /// ```
+    pub fn away(mut self) -> Away {
+        unsafe { regnubas_away(&mut self.raw) };
+        Away { pass: self }
+    }
+
     /// What is left of the pass's share.
     ///
     /// ```
@@ -376,7 +452,7 @@ impl Pass {
     }
 
     /// Ends the dictionary by its last pass, and begins the next, of the same shape and with so many
-    /// passes, with its pairs.
+    /// passes, with its pairs. The next does not last.
     ///
     /// ```
     /// # use regnubas::{make, Limits, Share};
@@ -392,6 +468,21 @@ impl Pass {
         let pairs = self.close()?;
         begun(passes, each, &raw_of(pairs.iter().copied()), trie)
             .map_err(|fault| RenewFault::Refused { fault, pairs })
+    }
+}
+
+/// A pass that is away. One that is dropped leaves.
+#[derive(Debug)]
+pub struct Away {
+    pass: Pass,
+}
+
+impl Away {
+    /// The pass is back. See [`Pass::away`].
+    pub fn back(mut self) -> Pass {
+        // SAFETY: as of the calls.
+        unsafe { regnubas_back(&mut self.pass.raw) };
+        self.pass
     }
 }
 

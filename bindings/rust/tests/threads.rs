@@ -1,5 +1,5 @@
 //! Four threads on one dictionary.
-use regnubas::{again, make, make_trie, of_pairs, trie_of_pairs};
+use regnubas::{again, make, make_lasting, make_lasting_trie, make_trie, of_pairs, trie_of_pairs};
 use regnubas::{CloseFault, Fault, Limits, Pass, RenewFault};
 
 const THREADS: u64 = 4;
@@ -183,4 +183,30 @@ fn pairs_to_begin_with() {
         assert_eq!(begin(0, each, vec![(1, 1)]).err(), Some(Fault::Limits));
         assert_eq!(begin(32, MOST, vec![(1, 1)]).err(), Some(Fault::TooMany));
     }
+}
+
+/// Far more changes than a share has room for: each pass rests, the last is away meanwhile.
+#[test]
+fn one_that_lasts() {
+    for make in [make_lasting, make_lasting_trie] {
+        let mut passes = make(4, Limits { nodes: 64, scx: 64, tries: 1 }).unwrap();
+        let away = passes.pop().unwrap().away();
+        std::thread::scope(|s| {
+            for (key, mut pass) in (0..).zip(passes) {
+                s.spawn(move || {
+                    for time in 0..3000 {
+                        while pass.insert(key, time).is_err() {
+                            pass.rest();
+                        }
+                        pass.rest();
+                    }
+                });
+            }
+        });
+        let mut pass = away.back();
+        assert_eq!((pass.get(1), pass.rest()), (Some(2999), None));
+        assert_eq!(pass.close().unwrap(), [(0, 2999), (1, 2999), (2, 2999)]);
+    }
+    let mut pass = make(1, Limits::for_changes(10, 10)).unwrap().remove(0).away().back();
+    assert_eq!((pass.rest(), pass.insert(5, 50)), (None, Ok(None)));
 }

@@ -16,7 +16,7 @@ use Rattle.forest.specs.declared.fault.UpdateFault.{UpdateFault}
 use Rattle.forest.specs.declared.fault.UpdateFault.TheVariants as updates
 use Rattle.forest.specs.Dictionary.{HasCalledIn, order_reply, update_reply}
 use Rattle.capi.specs.Left.{AreLeft}
-use Rattle.capi.specs.Made.{AreMade}
+use Rattle.capi.specs.Made.{AreMade, AreMadeLasting}
 use Rattle.capi.specs.declared.answer.ValueAnswer.{ValueAnswer}
 use Rattle.capi.specs.declared.answer.Count.{Count}
 use Rattle.capi.specs.declared.answer.Left.{Left}
@@ -25,6 +25,8 @@ use Rattle.capi.specs.declared.answer.PassLimits.{PassLimits}
 use Rattle.capi.specs.declared.answer.Value.{Value}
 use Rattle.capi.specs.Owned.{in_trie, owner_of, pass_of}
 use Rattle.capi.specs.declared.client.OwnedPass.{OwnedPass}
+use Rattle.capi.specs.declared.presence.Client.{Client}
+use Rattle.capi.specs.declared.presence.Client.TheVariants.{Away, Here, Nobody}
 use Rattle.capi.specs.declared.handle.HandleSlot.{HandleSlot}
 
 -- Statuses are numbers here, as C has them: 0 none, 1 some, 2 contended, 3 full, 4 no memory,
@@ -95,12 +97,17 @@ IsCountOfRange (Err fault) room a = a ≡ no_count (order_status fault)
 abbrev pub HasClientCalled : OwnedPass → OwnedPass → MapCall → Reply ℕ ℕ → Type 0
 HasClientCalled old new = HasCalledIn (in_trie old) (λ k. k < 2 ^ 64) (λ k. k) (λ v. v < 2 ^ 128) (λ v. v) (arc_value (owner_of old)) (pass_of old) (pass_of new)
 
--- what a handle held before and after a call, and what the call answered: with no pass nothing is
--- done, and it answers this; else the pass, which stays in its forest, has made this call
-abbrev pub CallSays : {A : Type 0} → A → (OwnedPass → OwnedPass → A → Type 0) → Option OwnedPass → Option OwnedPass → A → Type 0
+-- what a handle held before and after a call, and what the call answered: with no pass, or one that
+-- is away, nothing is done, and it answers this; else the pass, which stays in its forest, has made
+-- this call
+abbrev pub CallSays : {A : Type 0} → A → (OwnedPass → OwnedPass → A → Type 0) → Option Client → Option Client → A → Type 0
 CallSays no_pass made None after a = (after ≡ None) × (a ≡ no_pass)
-CallSays no_pass made (Some old) None a = ⊥
-CallSays no_pass made (Some old) (Some new) a = (owner_of new ≡ owner_of old) × made old new a
+CallSays no_pass made (Some (Away gone)) after a = (after ≡ Some (Away gone)) × (a ≡ no_pass)
+CallSays no_pass made (Some Nobody) after a = (after ≡ Some Nobody) × (a ≡ no_pass)
+CallSays no_pass made (Some (Here old)) None a = ⊥
+CallSays no_pass made (Some (Here old)) (Some (Away gone)) a = ⊥
+CallSays no_pass made (Some (Here old)) (Some Nobody) a = ⊥
+CallSays no_pass made (Some (Here old)) (Some (Here new)) a = (owner_of new ≡ owner_of old) × made old new a
 
 -- what `get` says
 abbrev pub GetSays : ℕ → OwnedPass → OwnedPass → ValueAnswer → Type 0
@@ -123,9 +130,11 @@ abbrev pub BetweenSays : ℕ → ℕ → ℕ → List KeyValue → OwnedPass →
 BetweenSays low high most room old new a = (told : Result (Vec (ℕ × ℕ)) OrderFault) × IsCountOfRange told room a × HasClientCalled old new (Range low high most) (order_reply replies.Pairs told)
 
 -- what `left` answers
-abbrev pub LeftSays : Option OwnedPass → Left → Type 0
+abbrev pub LeftSays : Option Client → Left → Type 0
 LeftSays None a = a ≡ record { nodes = 0; scx = 0 }
-LeftSays (Some c) a = a ≡ record { nodes = (pass_of c).share.nodes; scx = (pass_of c).share.scx }
+LeftSays (Some (Away gone)) a = a ≡ record { nodes = 0; scx = 0 }
+LeftSays (Some Nobody) a = a ≡ record { nodes = 0; scx = 0 }
+LeftSays (Some (Here c)) a = a ≡ record { nodes = (pass_of c).share.nodes; scx = (pass_of c).share.scx }
 
 -- What `close` and `make` say
 
@@ -137,10 +146,12 @@ pub record HasClosed (c : OwnedPass) (room : List KeyValue) (a : Count) : Type 0
   pub put : StandIn (take (length room) pairs) room
 
 -- what `close` answers, and leaves in the handle and in its room
-abbrev pub CloseSays : Option OwnedPass → Option OwnedPass → List KeyValue → Count → Type 0
+abbrev pub CloseSays : Option Client → Option Client → List KeyValue → Count → Type 0
 CloseSays None after room a = (after ≡ None) × (a ≡ no_count 6)
-CloseSays (Some c) (Some d) room a = (d ≡ c) × (a ≡ no_count 7)
-CloseSays (Some c) None room a = (a ≡ no_count 4) ⊎ HasClosed c room a
+CloseSays (Some (Away gone)) after room a = (after ≡ Some (Away gone)) × (a ≡ no_count 6)
+CloseSays (Some Nobody) after room a = (after ≡ Some Nobody) × (a ≡ no_count 6)
+CloseSays (Some (Here c)) (Some d) room a = (d ≡ Here c) × (a ≡ no_count 7)
+CloseSays (Some (Here c)) None room a = (a ≡ no_count 4) ⊎ HasClosed c room a
 
 -- the limits of this many passes
 abbrev pub limits_of : PassLimits → ℕ → Limits
@@ -155,3 +166,7 @@ pub record IsNotMade (each : PassLimits) (before after : List HandleSlot) (statu
 -- what `make` answers, and what handles hold: those of a new dictionary, or what they held
 abbrev pub MakeSays : Mode → PassLimits → List HandleSlot → List HandleSlot → ℕ → Type 0
 MakeSays mode each before after status = ((status ≡ 0) × AreMade mode (limits_of each (length before)) after) ⊎ IsNotMade each before after status
+
+-- the same of `make_lasting`
+abbrev pub MakeLastingSays : Mode → PassLimits → List HandleSlot → List HandleSlot → ℕ → Type 0
+MakeLastingSays mode each before after status = ((status ≡ 0) × AreMadeLasting mode (limits_of each (length before)) after) ⊎ IsNotMade each before after status

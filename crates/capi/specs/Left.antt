@@ -1,5 +1,5 @@
 -- What is left in a dictionary when it is closed.
-use Rattle.std.specs.Prelude.{◌≡◌, ℕ, List, map, Option, Some, None, Result, Ok, Err}
+use Rattle.std.specs.Prelude.{◌≡◌, ℕ, Bool, true, false, List, map, Option, Some, None, IfSome, Result, Ok, Err}
 use Rattle.std.specs.Global.{Vec}
 use Rattle.std.specs.List.{All}
 use Rattle.arena.specs.declared.layout.Layout.{Layout}
@@ -11,6 +11,7 @@ use Rattle.dict.specs.Typed.{TypedAllows}
 use Rattle.dict.specs.Words.{IsNumber, IsWideNumber}
 use Rattle.ordered_map.specs.Replies.{word_pair}
 use Rattle.ordered_map.specs.Spelled.{Spells}
+use Rattle.forest.specs.Remains.{AreRemains, SlotWords}
 use Rattle.tables.specs.Passes.{PassView, AreAllBack, IsClosed, done_of, run_of}
 use Rattle.tables.specs.Shares.{entries_of}
 use Rattle.tables.specs.TableRule.{history_of}
@@ -20,6 +21,8 @@ use Rattle.capi.specs.declared.held.Held.{Held}
 use Rattle.capi.specs.declared.client.OwnedPass.{OwnedPass}
 use Rattle.capi.specs.declared.client.Closing.{Closing}
 use Rattle.capi.specs.declared.client.Closing.TheVariants.{Pairs, NoMemory, Shared}
+use Rattle.capi.specs.declared.presence.Client.{Client}
+use Rattle.capi.specs.declared.presence.Client.TheVariants.{Away, Here, Nobody}
 
 -- the pairs are those of the map at the end of a lawful run, which extends what the pass knew;
 -- the pass itself has entered nothing more: what was added since is other passes'
@@ -40,6 +43,20 @@ pub record AreLeftByAll (lay : Layout) (passes : List PassView) (pairs : List (�
   pub closed : IsClosed (TypedAllows IsNumber IsWideNumber) lay passes words
   pub spelled : Spells lay (value (history_of closed.planting closed.rows)) (map (word_pair (λ k. k) (λ v. v)) pairs)
 
+-- The same of a dictionary that lasts: the run extends what each of the passes knew (`known` of
+-- `closed`), by rows of others alone, and the words show the tree of that run.
+pub record AreLeftByLasting (lay : Layout) (passes : List PassView) (pairs : List (ℕ × ℕ)) : Type 0 where
+  pub layouts : All (λ p. p.layout ≡ lay) passes
+  pub all : AreAllBack lay passes
+  pub words : SlotWords
+  pub closed : AreRemains (TypedAllows IsNumber IsWideNumber) lay passes words
+  pub spelled : Spells lay (value (history_of closed.planting closed.rows)) (map (word_pair (λ k. k) (λ v. v)) pairs)
+
+-- the pairs are left so, in a dictionary that lasts or in another
+abbrev pub AreLeftIn : Bool → Layout → List PassView → List (ℕ × ℕ) → Type 0
+AreLeftIn false lay passes pairs = AreLeftByAll lay passes pairs
+AreLeftIn true lay passes pairs = AreLeftByLasting lay passes pairs
+
 -- how a holder may close: the pairs are left, or an allocation was refused; or it is as it was
 abbrev pub IsClosingOf : {B : Type 0} {g : Ghosts B} → Held B g → Result (Option (Vec (ℕ × ℕ))) (Held B g) → Type 0
 IsClosingOf c (Ok (Some pairs)) = AreLeft c.pass pairs.items
@@ -56,3 +73,15 @@ abbrev pub IsClosing : OwnedPass → Closing → Type 0
 IsClosing c (Pairs pairs) = AreLeft (pass_of c) pairs.items
 IsClosing c NoMemory = Unit {0}
 IsClosing c (Shared d) = d ≡ c
+
+-- the same of what a handle leads to
+abbrev pub IsClosingHere : Client → Closing → Type 0
+IsClosingHere (Here c) told = IsClosing c told
+IsClosingHere (Away a) told = Unit {0}
+IsClosingHere Nobody told = Unit {0}
+
+-- why it cannot end its dictionary: others share it, or no pass is there
+abbrev pub IsRefusal : Client → Option ℕ → Type 0
+IsRefusal (Here c) told = IfSome told (λ n. n ≡ 7)
+IsRefusal (Away a) told = told ≡ Some 6
+IsRefusal Nobody told = told ≡ Some 6

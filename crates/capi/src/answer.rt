@@ -2,9 +2,10 @@
 ghost use Rattle.std.specs.Prelude.{◌≡◌, ◌≤◌, length, map, vec_len, IfOk, take};
 ghost use Rattle.capi.specs.Answers.{number, no_value, no_count, counted, update_status, order_status, IsValueAnswer, IsUpdateAnswer, IsPairAnswer, IsCountOfRange, StandIn, pair_of};
 ghost use Rattle.capi.specs.Begins.{pairs_status};
+ghost use Rattle.capi.specs.Rests.{IsPassAnswer};
 
 use ordered_map::{halves, wide_value};
-use regnubas::{NoMemory, OrderFault, PairsFault, UpdateFault};
+use regnubas::{NoMemory, OrderFault, PairsFault, PassNo, UpdateFault};
 use std::alloc::Global;
 
 /// Done: the key has no value, or had none.
@@ -156,6 +157,19 @@ pub(crate) fn tell_pair(found: Option<(u64, u128)>, room: &mut KeyValue) -> u32
                 key,
                 value: Value::of(value),
             };
+            SOME
+        }
+        None => NONE,
+    }
+}
+
+/// What a rest answers, and leaves at `room`.
+pub(crate) fn tell_pass(other: Option<PassNo>, room: &mut u32) -> u32
+    ensures { IsPassAnswer other room.new result }
+{
+    match other {
+        Some(other) => {
+            *room = other.0;
             SOME
         }
         None => NONE,

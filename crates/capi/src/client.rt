@@ -6,22 +6,26 @@ ghost use Rattle.ordered_map.specs.declared.reply.Reply.TheVariants as replies;
 ghost use Rattle.forest.specs.Dictionary.{order_reply, update_reply};
 
 use crate::answer::{Count, KeyValue};
-use crate::close::close;
+use crate::close::{close, close_lasting};
 use crate::held::Held;
-use regnubas::{ByBits, ByOrder, OrderFault, UpdateFault};
+use regnubas::{ByBits, ByOrder, Lasts, OrderFault, PassNo, UpdateFault};
 use std::alloc::Global;
 use std::sync::Arc;
 
-/// A pass of a tree or of a trie, and one owner of its forest.
+/// A pass of a tree or of a trie, and one owner of its forest. Of a dictionary that lasts its records
+/// come back.
 #[derive(Drop)]
 pub enum OwnedPass {
     Tree(Held<ByOrder>),
     Trie(Held<ByBits>),
+    LastingTree(Held<Lasts<ByOrder>>),
+    LastingTrie(Held<Lasts<ByBits>>),
 }
 
 impl OwnedPass {
     ghost use Rattle.capi.specs.Answers.{HasClientCalled, BetweenSays};
-    ghost use Rattle.capi.specs.Owned.{in_trie, owner_of, pass_of};
+    ghost use Rattle.capi.specs.Owned.{in_trie, lasts, owner_of, pass_of};
+    ghost use Rattle.capi.specs.Rests.{HasRestedAs};
 
     /// The value of a key.
     pub fn get(&mut self, key: u64) -> Option<u128>
@@ -31,6 +35,8 @@ impl OwnedPass {
         match self {
             OwnedPass::Tree(held) => held.forest.get(&mut held.pass, &key),
             OwnedPass::Trie(held) => held.forest.get(&mut held.pass, &key),
+            OwnedPass::LastingTree(held) => held.forest.get(&mut held.pass, &key),
+            OwnedPass::LastingTrie(held) => held.forest.get(&mut held.pass, &key),
         }
     }
 
@@ -43,6 +49,8 @@ impl OwnedPass {
         match self {
             OwnedPass::Tree(held) => held.forest.insert(&mut held.pass, key, value),
             OwnedPass::Trie(held) => held.forest.insert(&mut held.pass, key, value),
+            OwnedPass::LastingTree(held) => held.forest.insert(&mut held.pass, key, value),
+            OwnedPass::LastingTrie(held) => held.forest.insert(&mut held.pass, key, value),
         }
     }
 
@@ -55,6 +63,8 @@ impl OwnedPass {
         match self {
             OwnedPass::Tree(held) => held.forest.insert_new(&mut held.pass, key, value),
             OwnedPass::Trie(held) => held.forest.insert_new(&mut held.pass, key, value),
+            OwnedPass::LastingTree(held) => held.forest.insert_new(&mut held.pass, key, value),
+            OwnedPass::LastingTrie(held) => held.forest.insert_new(&mut held.pass, key, value),
         }
     }
 
@@ -67,6 +77,8 @@ impl OwnedPass {
         match self {
             OwnedPass::Tree(held) => held.forest.delete(&mut held.pass, &key),
             OwnedPass::Trie(held) => held.forest.delete(&mut held.pass, &key),
+            OwnedPass::LastingTree(held) => held.forest.delete(&mut held.pass, &key),
+            OwnedPass::LastingTrie(held) => held.forest.delete(&mut held.pass, &key),
         }
     }
 
@@ -79,6 +91,8 @@ impl OwnedPass {
         match self {
             OwnedPass::Tree(held) => held.forest.delete_if(&mut held.pass, &key, &expected),
             OwnedPass::Trie(held) => held.forest.delete_if(&mut held.pass, &key, &expected),
+            OwnedPass::LastingTree(held) => held.forest.delete_if(&mut held.pass, &key, &expected),
+            OwnedPass::LastingTrie(held) => held.forest.delete_if(&mut held.pass, &key, &expected),
         }
     }
 
@@ -91,6 +105,8 @@ impl OwnedPass {
         match self {
             OwnedPass::Tree(held) => held.forest.pop_first(&mut held.pass),
             OwnedPass::Trie(held) => held.forest.pop_first(&mut held.pass),
+            OwnedPass::LastingTree(held) => held.forest.pop_first(&mut held.pass),
+            OwnedPass::LastingTrie(held) => held.forest.pop_first(&mut held.pass),
         }
     }
 
@@ -103,6 +119,8 @@ impl OwnedPass {
         match self {
             OwnedPass::Tree(held) => held.forest.pop_last(&mut held.pass),
             OwnedPass::Trie(held) => held.forest.pop_last(&mut held.pass),
+            OwnedPass::LastingTree(held) => held.forest.pop_last(&mut held.pass),
+            OwnedPass::LastingTrie(held) => held.forest.pop_last(&mut held.pass),
         }
     }
 
@@ -126,6 +144,14 @@ impl OwnedPass {
                 let (forest, pass) = (&held.forest, &mut held.pass);
                 forest.replace_if(pass, key, &expected, value)
             }
+            OwnedPass::LastingTree(held) => {
+                let (forest, pass) = (&held.forest, &mut held.pass);
+                forest.replace_if(pass, key, &expected, value)
+            }
+            OwnedPass::LastingTrie(held) => {
+                let (forest, pass) = (&held.forest, &mut held.pass);
+                forest.replace_if(pass, key, &expected, value)
+            }
         }
     }
 
@@ -138,6 +164,8 @@ impl OwnedPass {
         match self {
             OwnedPass::Tree(held) => held.forest.successor(alloc, &mut held.pass, &key),
             OwnedPass::Trie(held) => held.forest.successor(alloc, &mut held.pass, &key),
+            OwnedPass::LastingTree(held) => held.forest.successor(alloc, &mut held.pass, &key),
+            OwnedPass::LastingTrie(held) => held.forest.successor(alloc, &mut held.pass, &key),
         }
     }
 
@@ -154,6 +182,8 @@ impl OwnedPass {
         match self {
             OwnedPass::Tree(held) => held.forest.predecessor(alloc, &mut held.pass, &key),
             OwnedPass::Trie(held) => held.forest.predecessor(alloc, &mut held.pass, &key),
+            OwnedPass::LastingTree(held) => held.forest.predecessor(alloc, &mut held.pass, &key),
+            OwnedPass::LastingTrie(held) => held.forest.predecessor(alloc, &mut held.pass, &key),
         }
     }
 
@@ -175,6 +205,12 @@ impl OwnedPass {
         match self {
             OwnedPass::Tree(held) => held.forest.range(alloc, &mut held.pass, &low, &high, most),
             OwnedPass::Trie(held) => held.forest.range(alloc, &mut held.pass, &low, &high, most),
+            OwnedPass::LastingTree(held) => held
+                .forest
+                .range(alloc, &mut held.pass, &low, &high, most),
+            OwnedPass::LastingTrie(held) => held
+                .forest
+                .range(alloc, &mut held.pass, &low, &high, most),
         }
     }
 
@@ -187,6 +223,18 @@ impl OwnedPass {
         Count::of_range(told, room)
     }
 
+    /// Rests, if the dictionary lasts, and tells for whom it waits.
+    pub fn rest(&mut self) -> Option<PassNo>
+        ensures same { owner_of self.new ≡ owner_of self.old }
+        ensures rested { HasRestedAs self.old self.new result }
+    {
+        match self {
+            OwnedPass::Tree(_) | OwnedPass::Trie(_) => None,
+            OwnedPass::LastingTree(held) => held.forest.rest(&mut held.pass),
+            OwnedPass::LastingTrie(held) => held.forest.rest(&mut held.pass),
+        }
+    }
+
     /// How many nodes and SCX-records are left of the pass's share.
     pub fn left(&self) -> (u32, u32)
         ensures { result ≡ ((pass_of self.now).share.nodes, (pass_of self.now).share.scx) }
@@ -194,6 +242,8 @@ impl OwnedPass {
         match self {
             OwnedPass::Tree(held) => held.pass.left(),
             OwnedPass::Trie(held) => held.pass.left(),
+            OwnedPass::LastingTree(held) => held.pass.left(),
+            OwnedPass::LastingTrie(held) => held.pass.left(),
         }
     }
 
@@ -201,7 +251,14 @@ impl OwnedPass {
     pub fn is_trie(&self) -> bool
         ensures { result ≡ in_trie self.now }
     {
-        matches!(self, OwnedPass::Trie(_))
+        matches!(self, OwnedPass::Trie(_) | OwnedPass::LastingTrie(_))
+    }
+
+    /// Whether its dictionary lasts.
+    pub fn lasts(&self) -> bool
+        ensures { result ≡ lasts self.now }
+    {
+        matches!(self, OwnedPass::LastingTree(_) | OwnedPass::LastingTrie(_))
     }
 
     /// How many passes the dictionary has.
@@ -211,6 +268,8 @@ impl OwnedPass {
         match self {
             OwnedPass::Tree(held) => held.all,
             OwnedPass::Trie(held) => held.all,
+            OwnedPass::LastingTree(held) => held.all,
+            OwnedPass::LastingTrie(held) => held.all,
         }
     }
 }
@@ -255,6 +314,14 @@ impl OwnedPass {
                 Ok(left) => Closing::of(left),
                 Err(held) => Closing::Shared(OwnedPass::Trie(held)),
             },
+            OwnedPass::LastingTree(held) => match close_lasting(held, alloc) {
+                Ok(left) => Closing::of(left),
+                Err(held) => Closing::Shared(OwnedPass::LastingTree(held)),
+            },
+            OwnedPass::LastingTrie(held) => match close_lasting(held, alloc) {
+                Ok(left) => Closing::of(left),
+                Err(held) => Closing::Shared(OwnedPass::LastingTrie(held)),
+            },
         }
     }
 
@@ -263,6 +330,8 @@ impl OwnedPass {
         match self {
             OwnedPass::Tree(held) => Arc::strong_count(&held.forest) == 1,
             OwnedPass::Trie(held) => Arc::strong_count(&held.forest) == 1,
+            OwnedPass::LastingTree(held) => Arc::strong_count(&held.forest) == 1,
+            OwnedPass::LastingTrie(held) => Arc::strong_count(&held.forest) == 1,
         }
     }
 }

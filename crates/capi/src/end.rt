@@ -1,15 +1,17 @@
 //! A dictionary is ended by all its passes at once.
-ghost use Rattle.std.specs.Prelude.{◌≡◌, ◌↔◌, Some, IfSome, IfNone, IfOk, IsTrue, map, vec_len};
+ghost use Rattle.std.specs.Prelude.{◌≡◌, ◌↔◌, false, Some, IfSome, IfNone, IfOk, IsTrue, map, vec_len};
 ghost use Rattle.std.specs.Arc.{arc_value};
 ghost use Rattle.std.specs.List.{All};
 ghost use Rattle.tables.specs.Passes.{Ground, IsOf};
 ghost use Rattle.capi.specs.Left.{AreLeftByAll};
 ghost use Rattle.capi.specs.Made.{IsHeldOf};
-ghost use Rattle.capi.specs.Ends.{AreHeld, AreOfOne, HaveEndedWith, IsEmpty, IsIn, IsOfTrie, held_in, pass_in};
+ghost use Rattle.capi.specs.Ends.{AreHeld, AreOfOne, HaveEndedWith, IsEmpty, IsIn, IsOfTrie, are_lasting, held_in, pass_in};
 
 use crate::client::OwnedPass;
+use crate::end_lasting::{end_lasting_tree, end_lasting_trie};
 use crate::handle::{Handle, HandleSlot};
 use crate::held::{Held, Numbers};
+use crate::presence::Client;
 use regnubas::{ByBits, ByOrder, FilledOnce, Forest, NoMemory, Pass};
 use std::alloc::Global;
 use std::sync::Arc;
@@ -39,11 +41,25 @@ pub(crate) fn end(alloc: Global, passes: &mut [HandleSlot]) -> Option<Vec<(u64, 
     ensures empty { All IsEmpty (held_in passes.new) }
     ensures left { IfSome result (λ pairs. HaveEndedWith (held_in passes.old) pairs.items) }
 {
-    if are_of_trie(alloc, passes) {
-        end_trie(alloc, passes)
-    } else {
-        end_tree(alloc, passes)
+    let lasting = are_lasting(alloc, passes);
+    let trie = are_of_trie(alloc, passes);
+    match (lasting, trie) {
+        (false, false) => end_tree(alloc, passes),
+        (false, true) => end_trie(alloc, passes),
+        (true, false) => end_lasting_tree(alloc, passes),
+        (true, true) => end_lasting_trie(alloc, passes),
     }
+}
+
+/// Whether the dictionary of these handles lasts: the first of them holds a pass of one that does.
+fn are_lasting(alloc: Global, passes: &mut [HandleSlot]) -> bool
+    ensures same { held_in passes.new ≡ held_in passes.old }
+    ensures told { result ≡ are_lasting (held_in passes.old) }
+{
+    if passes.is_empty() {
+        return false;
+    }
+    passes[0].handle.lasts(alloc)
 }
 
 /// Whether the dictionary of these handles is a trie: each of them holds a pass of one.
@@ -64,6 +80,7 @@ pub(crate) fn are_of_trie(alloc: Global, passes: &mut [HandleSlot]) -> bool
 fn end_tree(alloc: Global, passes: &mut [HandleSlot]) -> Option<Vec<(u64, u128)>>
     requires one { AreOfOne (held_in passes.old) }
     requires tree { ¬ All IsOfTrie (held_in passes.old) }
+    requires once { are_lasting (held_in passes.old) ≡ false }
     ensures empty { All IsEmpty (held_in passes.new) }
     ensures left { IfSome result (λ pairs. HaveEndedWith (held_in passes.old) pairs.items) }
 {
@@ -76,6 +93,7 @@ fn end_tree(alloc: Global, passes: &mut [HandleSlot]) -> Option<Vec<(u64, u128)>
 fn end_trie(alloc: Global, passes: &mut [HandleSlot]) -> Option<Vec<(u64, u128)>>
     requires one { AreOfOne (held_in passes.old) }
     requires trie { All IsOfTrie (held_in passes.old) }
+    requires once { are_lasting (held_in passes.old) ≡ false }
     ensures empty { All IsEmpty (held_in passes.new) }
     ensures left { IfSome result (λ pairs. HaveEndedWith (held_in passes.old) pairs.items) }
 {
@@ -85,7 +103,7 @@ fn end_trie(alloc: Global, passes: &mut [HandleSlot]) -> Option<Vec<(u64, u128)>
 }
 
 /// Takes all handles out, and leaves empty ones.
-fn take_out(alloc: Global, passes: &mut [HandleSlot]) -> Option<Vec<HandleSlot>>
+pub(crate) fn take_out(alloc: Global, passes: &mut [HandleSlot]) -> Option<Vec<HandleSlot>>
     ensures empty { All IsEmpty (held_in passes.new) }
     ensures took { IfSome result (λ places. places.items ≡ passes.old) }
 {
@@ -118,7 +136,7 @@ fn leave_all(alloc: Global, passes: &mut [HandleSlot])
     ensures { All IsEmpty (held_in passes.new) }
 {
     for place in passes.iter_mut() {
-        drop(place.handle.take(alloc));
+        place.handle.leave(alloc);
     }
 }
 
@@ -158,7 +176,10 @@ fn take_tree(
         let Some(client) = handle.into_box() else {
             return None;
         };
-        let OwnedPass::Tree(held) = Box::into_inner(client) else {
+        let Client::Here(own) = Box::into_inner(client) else {
+            return None;
+        };
+        let OwnedPass::Tree(held) = own else {
             return None;
         };
         let Held {
@@ -210,7 +231,10 @@ fn take_trie(
         let Some(client) = handle.into_box() else {
             return None;
         };
-        let OwnedPass::Trie(held) = Box::into_inner(client) else {
+        let Client::Here(own) = Box::into_inner(client) else {
+            return None;
+        };
+        let OwnedPass::Trie(held) = own else {
             return None;
         };
         let Held {

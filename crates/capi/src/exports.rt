@@ -18,17 +18,20 @@ ghost use Rattle.arena.specs.declared.limits.Mode.TheVariants.{Tree, Trie};
 ghost use Rattle.regnubas.specs.Balance.{map_mode};
 ghost use Rattle.capi.specs.Begins.{BeginSays, RenewSays};
 ghost use Rattle.capi.specs.Ends.{AreOfOne, EndSays, held_in};
-ghost use Rattle.capi.specs.Answers.{number, no_value, no_count, CallSays, GetSays, EditSays, TakenSays, FoundSays, BetweenSays, LeftSays, CloseSays, MakeSays, limits_of};
+ghost use Rattle.capi.specs.Rests.{AwaySays, BackSays, RestSays};
+ghost use Rattle.capi.specs.Answers.{number, no_value, no_count, CallSays, GetSays, EditSays, TakenSays, FoundSays, BetweenSays, LeftSays, CloseSays, MakeLastingSays, MakeSays, limits_of};
 
 use crate::answer::{
     Count, KeyValue, LIMITS, Left, NO_MEMORY, NO_PASS, NONE, PassLimits, SHARED, Value,
-    ValueAnswer, numbers_of, status_of_edit, status_of_pairs, status_of_read, tell_pair,
+    ValueAnswer, numbers_of, status_of_edit, status_of_pairs, status_of_read, tell_pair, tell_pass,
 };
 use crate::begin::{begin, begin_next};
 use crate::client::Closing;
 use crate::end::{all_of, are_of_trie, end};
 use crate::handle::HandleSlot;
+use crate::lasting::open_lasting;
 use crate::open::open;
+use crate::presence::Client;
 use arena::Mode;
 use regnubas::{Limits, NewFault};
 use std::alloc::Global;
@@ -67,6 +70,53 @@ fn make(alloc: Global, each: PassLimits, passes: &mut [HandleSlot], trie: bool) 
         tries: each.tries,
     };
     match open(alloc, limits, trie) {
+        Ok(mut places) => {
+            passes.swap_with_slice(&mut places);
+            NONE
+        }
+        Err(NewFault::Limits) => LIMITS,
+        Err(NewFault::NoMemory) => NO_MEMORY,
+    }
+}
+
+/// Makes a dictionary that lasts, with as many passes as there are handles, one for each.
+#[unsafe(no_mangle)]
+pub extern "C" fn regnubas_make_lasting(
+    alloc: Global,
+    each: PassLimits,
+    passes: &mut [HandleSlot],
+) -> u32
+    ensures { MakeLastingSays Tree each passes.old passes.new result }
+{
+    make_lasting(alloc, each, passes, false)
+}
+
+/// The same of a trie.
+#[unsafe(no_mangle)]
+pub extern "C" fn regnubas_make_lasting_trie(
+    alloc: Global,
+    each: PassLimits,
+    passes: &mut [HandleSlot],
+) -> u32
+    ensures { MakeLastingSays Trie each passes.old passes.new result }
+{
+    make_lasting(alloc, each, passes, true)
+}
+
+/// Makes a dictionary that lasts, a trie or a tree.
+fn make_lasting(alloc: Global, each: PassLimits, passes: &mut [HandleSlot], trie: bool) -> u32
+    ensures { MakeLastingSays (map_mode trie) each passes.old passes.new result }
+{
+    if passes.len() > 32 {
+        return LIMITS;
+    }
+    let limits = Limits {
+        passes: passes.len() as u32,
+        nodes: each.nodes,
+        scx: each.scx,
+        tries: each.tries,
+    };
+    match open_lasting(alloc, limits, trie) {
         Ok(mut places) => {
             passes.swap_with_slice(&mut places);
             NONE
@@ -156,7 +206,10 @@ pub extern "C" fn regnubas_get(alloc: Global, pass: &mut HandleSlot, key: u64) -
     let Some(mut client) = pass.handle.take(alloc) else {
         return ValueAnswer::no_value(NO_PASS);
     };
-    let answer = ValueAnswer::of_value(client.get(key));
+    let answer = match &mut *client {
+        Client::Here(own) => ValueAnswer::of_value(own.get(key)),
+        Client::Away(_) | Client::Nobody => ValueAnswer::no_value(NO_PASS),
+    };
     pass.handle.put(client);
     answer
 }
@@ -174,7 +227,10 @@ pub extern "C" fn regnubas_insert(
     let Some(mut client) = pass.handle.take(alloc) else {
         return ValueAnswer::no_value(NO_PASS);
     };
-    let answer = ValueAnswer::of_update(client.insert(key, value.number()));
+    let answer = match &mut *client {
+        Client::Here(own) => ValueAnswer::of_update(own.insert(key, value.number())),
+        Client::Away(_) | Client::Nobody => ValueAnswer::no_value(NO_PASS),
+    };
     pass.handle.put(client);
     answer
 }
@@ -192,7 +248,10 @@ pub extern "C" fn regnubas_insert_new(
     let Some(mut client) = pass.handle.take(alloc) else {
         return ValueAnswer::no_value(NO_PASS);
     };
-    let answer = ValueAnswer::of_update(client.insert_new(key, value.number()));
+    let answer = match &mut *client {
+        Client::Here(own) => ValueAnswer::of_update(own.insert_new(key, value.number())),
+        Client::Away(_) | Client::Nobody => ValueAnswer::no_value(NO_PASS),
+    };
     pass.handle.put(client);
     answer
 }
@@ -205,7 +264,10 @@ pub extern "C" fn regnubas_delete(alloc: Global, pass: &mut HandleSlot, key: u64
     let Some(mut client) = pass.handle.take(alloc) else {
         return ValueAnswer::no_value(NO_PASS);
     };
-    let answer = ValueAnswer::of_update(client.delete(key));
+    let answer = match &mut *client {
+        Client::Here(own) => ValueAnswer::of_update(own.delete(key)),
+        Client::Away(_) | Client::Nobody => ValueAnswer::no_value(NO_PASS),
+    };
     pass.handle.put(client);
     answer
 }
@@ -223,7 +285,10 @@ pub extern "C" fn regnubas_delete_if(
     let Some(mut client) = pass.handle.take(alloc) else {
         return ValueAnswer::no_value(NO_PASS);
     };
-    let answer = ValueAnswer::of_update(client.delete_if(key, expected.number()));
+    let answer = match &mut *client {
+        Client::Here(own) => ValueAnswer::of_update(own.delete_if(key, expected.number())),
+        Client::Away(_) | Client::Nobody => ValueAnswer::no_value(NO_PASS),
+    };
     pass.handle.put(client);
     answer
 }
@@ -240,9 +305,12 @@ pub extern "C" fn regnubas_pop_first(
     let Some(mut client) = pass.handle.take(alloc) else {
         return NO_PASS;
     };
-    let status = match client.pop_first() {
-        Ok(taken) => tell_pair(taken, pair),
-        Err(fault) => status_of_edit(fault),
+    let status = match &mut *client {
+        Client::Here(own) => match own.pop_first() {
+            Ok(taken) => tell_pair(taken, pair),
+            Err(fault) => status_of_edit(fault),
+        },
+        Client::Away(_) | Client::Nobody => NO_PASS,
     };
     pass.handle.put(client);
     status
@@ -260,9 +328,12 @@ pub extern "C" fn regnubas_pop_last(
     let Some(mut client) = pass.handle.take(alloc) else {
         return NO_PASS;
     };
-    let status = match client.pop_last() {
-        Ok(taken) => tell_pair(taken, pair),
-        Err(fault) => status_of_edit(fault),
+    let status = match &mut *client {
+        Client::Here(own) => match own.pop_last() {
+            Ok(taken) => tell_pair(taken, pair),
+            Err(fault) => status_of_edit(fault),
+        },
+        Client::Away(_) | Client::Nobody => NO_PASS,
     };
     pass.handle.put(client);
     status
@@ -282,8 +353,13 @@ pub extern "C" fn regnubas_replace_if(
     let Some(mut client) = pass.handle.take(alloc) else {
         return ValueAnswer::no_value(NO_PASS);
     };
-    let told = client.replace_if(key, expected.number(), value.number());
-    let answer = ValueAnswer::of_update(told);
+    let answer = match &mut *client {
+        Client::Here(own) => {
+            let told = own.replace_if(key, expected.number(), value.number());
+            ValueAnswer::of_update(told)
+        }
+        Client::Away(_) | Client::Nobody => ValueAnswer::no_value(NO_PASS),
+    };
     pass.handle.put(client);
     answer
 }
@@ -301,9 +377,12 @@ pub extern "C" fn regnubas_successor(
     let Some(mut client) = pass.handle.take(alloc) else {
         return NO_PASS;
     };
-    let status = match client.successor(alloc, key) {
-        Ok(found) => tell_pair(found, pair),
-        Err(fault) => status_of_read(fault),
+    let status = match &mut *client {
+        Client::Here(own) => match own.successor(alloc, key) {
+            Ok(found) => tell_pair(found, pair),
+            Err(fault) => status_of_read(fault),
+        },
+        Client::Away(_) | Client::Nobody => NO_PASS,
     };
     pass.handle.put(client);
     status
@@ -322,9 +401,12 @@ pub extern "C" fn regnubas_predecessor(
     let Some(mut client) = pass.handle.take(alloc) else {
         return NO_PASS;
     };
-    let status = match client.predecessor(alloc, key) {
-        Ok(found) => tell_pair(found, pair),
-        Err(fault) => status_of_read(fault),
+    let status = match &mut *client {
+        Client::Here(own) => match own.predecessor(alloc, key) {
+            Ok(found) => tell_pair(found, pair),
+            Err(fault) => status_of_read(fault),
+        },
+        Client::Away(_) | Client::Nobody => NO_PASS,
     };
     pass.handle.put(client);
     status
@@ -344,9 +426,56 @@ pub extern "C" fn regnubas_range(
     let Some(mut client) = pass.handle.take(alloc) else {
         return Count::none(NO_PASS);
     };
-    let answer = client.fill(alloc, low, high, room);
+    let answer = match &mut *client {
+        Client::Here(own) => own.fill(alloc, low, high, room),
+        Client::Away(_) | Client::Nobody => Count::none(NO_PASS),
+    };
     pass.handle.put(client);
     answer
+}
+
+/// The pass rests, between two calls, and leaves the number of the first pass that it waits for at
+/// `other`. A pass of a dictionary that does not last waits for nobody, and is as it was.
+#[unsafe(no_mangle)]
+pub extern "C" fn regnubas_rest(alloc: Global, pass: &mut HandleSlot, other: &mut u32) -> u32
+    ensures { CallSays 6 (RestSays other.new) pass.old.handle.value pass.new.handle.value result }
+{
+    let Some(mut client) = pass.handle.take(alloc) else {
+        return NO_PASS;
+    };
+    let status = match &mut *client {
+        Client::Here(own) => tell_pass(own.rest(), other),
+        Client::Away(_) | Client::Nobody => NO_PASS,
+    };
+    pass.handle.put(client);
+    status
+}
+
+/// The pass goes away, between two calls: until it is back there is no pass for calls, and no pass
+/// waits for it. Of a dictionary that does not last no pass goes away.
+#[unsafe(no_mangle)]
+pub extern "C" fn regnubas_away(alloc: Global, pass: &mut HandleSlot) -> u32
+    ensures { AwaySays pass.old.handle.value pass.new.handle.value result }
+{
+    let Some(mut client) = pass.handle.take(alloc) else {
+        return NO_PASS;
+    };
+    let status = client.go_away();
+    pass.handle.put(client);
+    status
+}
+
+/// A pass that is away is back.
+#[unsafe(no_mangle)]
+pub extern "C" fn regnubas_back(alloc: Global, pass: &mut HandleSlot) -> u32
+    ensures { BackSays pass.old.handle.value pass.new.handle.value result }
+{
+    let Some(mut client) = pass.handle.take(alloc) else {
+        return NO_PASS;
+    };
+    let status = client.come_back();
+    pass.handle.put(client);
+    status
 }
 
 /// What is left of the pass's share; nothing where there is no pass.
@@ -358,17 +487,18 @@ pub extern "C" fn regnubas_left(alloc: Global, pass: &mut HandleSlot) -> Left
     let Some(client) = pass.handle.take(alloc) else {
         return Left { nodes: 0, scx: 0 };
     };
-    let (nodes, scx) = client.left();
+    let left = client.left();
     pass.handle.put(client);
-    Left { nodes, scx }
+    left
 }
 
-/// Gives the pass up. The last to leave frees the dictionary.
+/// Gives the pass up; where its dictionary lasts it goes away by that. The last to leave frees the
+/// dictionary.
 #[unsafe(no_mangle)]
 pub extern "C" fn regnubas_leave(alloc: Global, pass: &mut HandleSlot)
     ensures { pass.new.handle.value ≡ None }
 {
-    drop(pass.handle.take(alloc));
+    pass.handle.leave(alloc);
 }
 
 /// Ends the dictionary by its last pass, and leaves its first pairs in `room`. It answers how many
@@ -384,14 +514,14 @@ pub extern "C" fn regnubas_close(
     let Some(client) = pass.handle.take(alloc) else {
         return Count::none(NO_PASS);
     };
-    if !client.is_last() {
+    if let Some(status) = client.refusal() {
         pass.handle.put(client);
-        return Count::none(SHARED);
+        return Count::none(status);
     }
     match Box::into_inner(client).close(alloc) {
         Closing::Pairs(pairs) => Count::of_pairs(pairs, room),
         Closing::NoMemory => Count::none(NO_MEMORY),
-        Closing::Shared(client) => match Box::new(alloc, client) {
+        Closing::Shared(own) => match Box::new(alloc, Client::Here(own)) {
             Ok(client) => {
                 pass.handle.put(client);
                 Count::none(SHARED)

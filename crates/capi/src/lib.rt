@@ -3,19 +3,23 @@
 #![tactic(auto)]
 
 mod answer;
+mod away;
 mod begin;
 mod client;
 mod close;
 mod end;
+mod end_lasting;
 mod exports;
 mod handle;
 mod held;
+mod lasting;
 mod loose;
 mod open;
-#[cfg(test)]
-mod tests;
+mod presence;
 
 pub use answer::{Count, KeyValue, Left, PassLimits, Value, ValueAnswer};
+pub use away::AwayPass;
 pub use client::{Closing, OwnedPass};
 pub use handle::{Handle, HandleSlot};
-pub use held::{Held, Numbers};
+pub use held::{Held, HeldAway, Numbers};
+pub use presence::Client;

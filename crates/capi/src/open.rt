@@ -8,11 +8,13 @@ ghost use Rattle.arena.specs.declared.limits.Mode.TheVariants.{Tree, Trie};
 ghost use Rattle.tables.specs.Passes.{IsOf};
 ghost use Rattle.capi.specs.Made.{IsHeldOf, AreMade, pass_at};
 ghost use Rattle.capi.specs.Owned.{pass_of};
+ghost use Rattle.capi.specs.Presence.{here};
 ghost use Rattle.regnubas.specs.Balance.{map_mode};
 
 use crate::client::OwnedPass;
 use crate::handle::{Handle, HandleSlot};
 use crate::held::{Held, Numbers};
+use crate::presence::Client;
 use regnubas::{ByBits, ByOrder, Forest, Limits, NewFault, NoMemory, Pass};
 use std::alloc::Global;
 use std::sync::Arc;
@@ -77,14 +79,15 @@ fn hand_tree(
     requires pass { IsOf (arc_value forest.now) pass }
     requires all { all ≡ (arc_value forest.now).layout.passes }
     ensures of_forest { IfOk result (λ h. IsHeldOf (arc_value forest.now) h.value) }
-    ensures held { IfOk result (λ h. option_map pass_of h.value ≡ Some pass) }
+    ensures held { IfOk result (λ h. option_map pass_of (here h.value) ≡ Some pass) }
 {
     let held = Held {
         forest: Arc::try_clone(forest)?,
         pass,
         all,
     };
-    Ok(Handle::holding(Box::new(alloc, OwnedPass::Tree(held))?))
+    let client = Client::Here(OwnedPass::Tree(held));
+    Ok(Handle::holding(Box::new(alloc, client)?))
 }
 
 /// The same of a trie.
@@ -134,12 +137,13 @@ fn hand_trie(
     requires pass { IsOf (arc_value forest.now) pass }
     requires all { all ≡ (arc_value forest.now).layout.passes }
     ensures of_forest { IfOk result (λ h. IsHeldOf (arc_value forest.now) h.value) }
-    ensures held { IfOk result (λ h. option_map pass_of h.value ≡ Some pass) }
+    ensures held { IfOk result (λ h. option_map pass_of (here h.value) ≡ Some pass) }
 {
     let held = Held {
         forest: Arc::try_clone(forest)?,
         pass,
         all,
     };
-    Ok(Handle::holding(Box::new(alloc, OwnedPass::Trie(held))?))
+    let client = Client::Here(OwnedPass::Trie(held));
+    Ok(Handle::holding(Box::new(alloc, client)?))
 }

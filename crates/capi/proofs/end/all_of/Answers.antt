@@ -1,10 +1,11 @@
-use Rattle.std.proofs.Common.{◌<◌, All, IsSome, length, length-set, get_or, set, arith, ap, sym, ◌∙◌, subst}
+use Rattle.std.proofs.Common.{◌<◌, All, length, length-set, get_or, set, arith, ap, sym, ◌∙◌, subst}
 use Rattle.std.specs.Option.{option_map}
 use Rattle.std.proofs.lemmas.List.{length-map}
 use Rattle.capi.specs.declared.handle.HandleSlot.{HandleSlot}
 use Rattle.capi.specs.Handles.{pass_count}
-use Rattle.capi.specs.Ends.{IsIn}
+use Rattle.capi.specs.Ends.{IsIn, IsThere}
 use Rattle.capi.specs.Made.{IsHeldOf}
+use Rattle.capi.specs.Presence.{here}
 use Rattle.capi.proofs.Ends.{all_more, all_through, kept, none_told, one_of, some_so, told_held, told_of, value_of}
 use Rattle.capi.proofs.end.all_of.Goals as goal
 
@@ -14,8 +15,8 @@ returns-in_default-clause-same c = kept c.loop-place.passes c.loop-place.place-i
 pub returns-in_default-clause-none : goal.returns-in_default-clause-none
 returns-in_default-clause-none c = λ held.
     let inside : c.loop-place.place-index < length c.loop-place.passes = omega (arith, c.loop-place.auto.passes, c.loop-place-test.true) in
-    let here = subst (All IsSome) (sym c.loop-place.invariant.same) held.1 in
-    none_told c.place-item.result.handle.value (c.in_default.ensures.all ∙ ap (λ (p : HandleSlot). option_map pass_count p.handle.value) (sym c.place-item.is)) (one_of c.loop-place.passes c.loop-place.place-index c.place-item.result c.place-item.result c.place-item.is IsSome inside here)
+    let there = subst (All IsThere) (sym c.loop-place.invariant.same) held.1 in
+    none_told c.place-item.result.handle.value (c.in_default.ensures.all ∙ ap (λ (p : HandleSlot). option_map pass_count (here p.handle.value)) (sym c.place-item.is)) (one_of c.loop-place.passes c.loop-place.place-index c.place-item.result c.place-item.result c.place-item.is IsThere inside there)
 
 pub loop-place-preserved : goal.loop-place-preserved
 loop-place-preserved c =
@@ -25,13 +26,13 @@ loop-place-preserved c =
     let new : HandleSlot = record { handle = c.all.new.self; unused = (get_or xs i old).unused } in
     let inside : i < length xs = omega (arith, c.loop-place.auto.passes, c.loop-place-test.true) in
     let same = c.all.ensures.same ∙ ap value_of (sym c.place-item.is) in
-    let told = c.in-Some.ensures.all ∙ ap (λ (p : HandleSlot). option_map pass_count p.handle.value) (sym c.place-item.is) in
+    let told = c.in-Some.ensures.all ∙ ap (λ (p : HandleSlot). option_map pass_count (here p.handle.value)) (sym c.place-item.is) in
     let inv = c.loop-place.invariant in
     let longer : 0 < length (set xs i new) = omega (arith, inside, length-set xs i new) in
     let stays = kept xs i old new c.place-item.is same in
     record {
       same = stays ∙ inv.same;
-      held = all_more IsSome xs i new inside inv.held (subst IsSome (sym same) (told_held old.handle.value c.in-Some.told told));
+      held = all_more IsThere xs i new inside inv.held (subst IsThere (sym same) (told_held old.handle.value c.in-Some.told told));
       of = λ f all.
           let before = subst (All (IsIn f)) stays all in
           all_more (IsHeldOf f) xs i new inside (inv.of f before)
@@ -49,5 +50,5 @@ returns-clause-some c = λ f all.
 pub returns-clause-held : goal.returns-clause-held
 returns-clause-held c =
     let inv = c.loop-place.invariant in
-    let through = all_through IsSome c.loop-place.passes c.loop-place.place-index (omega (arith, c.loop-place.auto.passes, c.loop-place-test.false)) inv.held in
-    some_so c.loop-place.all _ _ _ (λ n known. (omega (arith, known.0, c.loop-place.auto.passes, length-map c.args.passes.now value_of), subst (All IsSome) inv.same through)) inv.all
+    let through = all_through IsThere c.loop-place.passes c.loop-place.place-index (omega (arith, c.loop-place.auto.passes, c.loop-place-test.false)) inv.held in
+    some_so c.loop-place.all _ _ _ (λ n known. (omega (arith, known.0, c.loop-place.auto.passes, length-map c.args.passes.now value_of), subst (All IsThere) inv.same through)) inv.all
