@@ -40,8 +40,8 @@ module _ (c : Call) (h : History) where
     read = record {
       moment = x.moment;
       within = x.within;
-      since = own_since c x.moment x.own;
-      own = λ _. behind_own x.moment x.moment x.own (ends_self x.moment);
+      since = ends_trans x.moment x.first c.start x.since (own_since c x.first x.own);
+      own = λ _. behind_own x.moment x.first x.own x.since;
       map = x.map;
       spelled = x.spelled;
       gives = x.gives;

@@ -101,7 +101,9 @@ pub reply_wider : (c : Call) (begin h : History) (call : MapCall) (told : MapRep
 reply_wider c begin h call told e x = record {
   moment = x.moment;
   within = x.within;
+  first = x.first;
   own = let o = x.own in record { row = o.row; before = o.before; is = o.is; since = ends_trans o.before begin c.start o.since e; own = o.own };
+  since = x.since;
   map = x.map;
   spelled = x.spelled;
   gives = x.gives;

@@ -4,7 +4,7 @@ use native.Mathlib.Decide.{ℕ_discrete}
 use Rattle.arena.specs.declared.head.Head.{Head as HeadParts}
 use Rattle.histories.specs.Common.{NodeNo, Settled, More as MoreWord, Key as KeyWord, Side, child, marked, History, value, Extends, Call}
 use Rattle.arena.specs.declared.word.Side.TheVariants as sides
-use Rattle.template.specs.Common.{Snap, Pair as MapPair, neighbour, pair_or_none, IsOnPath, IsMapRun, class, is_leaf, level, opposite, rank, toward, IsOwnMoment}
+use Rattle.template.specs.Common.{Snap, Pair as MapPair, Neighbour as NeighbourOf, neighbour, pair_or_none, IsOnPath, IsMapRun, class, is_leaf, level, opposite, rank, toward, IsOwnMoment}
 use Rattle.ordered_map.proofs.Lemmas.{or_else, pair_stays, SameSettled, settled_class, settled_leaf, settled_toward}
 use Rattle.ordered_map.proofs.MapLemmas.{stood_settled}
 use Rattle.order.specs.Found.{AreThere, GoesTo, IsAtLowFork, IsReading, IsThere, Looks, Stands, StandsIn, TakesPair, WalksTo, head_at, key_at, more_at, pairs_behind, place_key, place_pair, place_value}
@@ -47,6 +47,7 @@ pub walks_to : (r : Neighbour) → r.route ≡ Above → WalksTo neighbour_means
 walks_to r is = record {
   asks = tt;
   small = λ small. small;
+  own = λ of k e. (let z : NeighbourOf r.side r.key ≡ NeighbourOf of k = e in cc);
   waits = ap beside_path is;
   turned = λ b n path turn. subst (λ route. LooksOnRoute r.side route b r.key n (first_children (opposite r.side) n)) (sym is) (first_looks b r.key n path r.side turn);
 }

@@ -1,6 +1,7 @@
 mod Following
 mod Placing
 mod Searching
+mod Nearby
 mod Blaming
 mod Snapping
 mod Looking

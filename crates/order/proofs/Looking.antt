@@ -165,7 +165,9 @@ pub replies : {R A : Type 0} (means : ReadMeaning R A) (r : R) (snaps : List Sna
 replies means r snaps c begin h told x same is = record {
   moment = begin;
   within = x.within;
+  first = begin;
   own = x.own;
+  since = ends_self begin;
   map = spelled.0;
   spelled = spelled.1;
   gives = x.right same.info spelled.0 spelled.1 ∙ sym is;

@@ -20,8 +20,11 @@ try_less (suc tries) each d = let e : suc tries - 1 ≡ tries = omega arith in r
 pub to_tries : (t rest : ℕ) → t ≤ t + rest
 to_tries t rest = omega arith
 
-pub less_walk : (t now left size path behind : ℕ) → now < left → t + (now + size + path + behind) < t + (left + size + path + behind)
-less_walk t now left size path behind i = omega (arith, i)
+pub less_walk : (t now left near size path behind : ℕ) → now < left → t + (now + near + size + path + behind) < t + (left + near + size + path + behind)
+less_walk t now left near size path behind i = omega (arith, i)
+
+pub past_walk : (t left near size path behind : ℕ) → t + (near + size + path + behind) ≤ t + (left + near + size + path + behind)
+past_walk t left near size path behind = omega arith
 
 pub less_look : (t now left size rest behind : ℕ) → now < left → t + (now + size + 1 + rest + behind) < t + (left + size + 1 + rest + behind)
 less_look t now left size rest behind i = omega (arith, i)

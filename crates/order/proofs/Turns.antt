@@ -1,7 +1,7 @@
 -- What an ordered read waits for after each of its turns.
 use Rattle.std.proofs.Common.{◌≡◌, ℕ, ◌+◌, ◌-◌, ◌*◌, ◌<◌, Bool, true, false, List, [], length, inl, inr, refl, sym, ◌∙◌, ap, subst, arith, Option, Some, None, Result, Ok, Err, IfOk, unwrap_or, Vec, Global}
 use Rattle.histories.specs.Common.{Layout, Turn, Ask, Done, NodeNo, ScxNo, Step, LoadMarked, LoadSettled, Settled, Head as HeadWord, Side, marked, node, History, value, Extends, Call, IsRun, MatchTurn, begun_at}
-use Rattle.template.specs.Common.{load, IsSnapshot, LlxIsReady, LlxWaits, LlxAnswers, VlxIsReady, VlxWaits, VlxAnswers, vlx_left, Llx, Snapshot, Finalized, Fail, LlxAt, LlxRun, Snap}
+use Rattle.template.specs.Common.{load, IsSnapshot, LlxIsReady, LlxWaits, LlxAnswers, VlxIsReady, VlxWaits, VlxAnswers, vlx_left, Llx, Snapshot, Finalized, Fail, LlxAt, LlxRun, Pair, pair_or_none, Snap}
 use Rattle.template.specs.Common.{Vlx, Same, Changed, TreeAllows, IsContended, Goal, MayGo, WalkFits, walk_left, HasFoundGoal, FoundBy, IsOwnMoment, WalkIsReady, WalkWaits, IsPastRoot, Key as ToKey}
 use Rattle.prims.specs.Vlx.Laws.{first_looked, looks_next}
 use Rattle.prims.specs.declared.llx.LlxAt.TheVariants.{Start as LlxStart, Marked}
@@ -14,29 +14,33 @@ use Rattle.template.specs.declared.walk.WalkRun.{WalkRun}
 use Rattle.template.specs.Balance.{leaf_way, map_mode, nodes_by}
 use Rattle.template.specs.Walk.Steps.{WalkFitsAt, room, steps_left}
 use Rattle.order.specs.Found.{BeginsAtRoot, BeginsSo, IsReading, Looks, WalksTo}
-use Rattle.order.specs.Known.{AreLastTurns, IsSameRead, ReadAnswers, ReadGoes, ReadIsReady, ReadIsToldAt, ReadTurn, ReadWaits, RunStands, Validates, Walks, WalksInTry}
+use Rattle.order.specs.Known.{AreLastTurns, IsSameRead, ReadAnswers, ReadGoes, ReadIsReady, ReadIsToldAt, ReadTurn, ReadWaits, RunStands, SearchesLeaf, Validates, Walks, WalksInTry}
 use Rattle.order.specs.Laws.Kept.{root_there}
 use Rattle.order.specs.Laws.Run.{no_turn, not_within, room_by}
-use Rattle.order.specs.LastTurns.{first_children, no_turns, turn_to}
+use Rattle.order.specs.LastTurns.{no_turns}
 use Rattle.order.specs.declared.last_turns.LastTurns.{LastTurns}
 use Rattle.order.specs.Loads.{load_value}
 use Rattle.order.specs.Meaning.{ReadMeaning}
+use Rattle.order.specs.Near.{NextStands, near_left, near_value, near_word}
 use Rattle.order.specs.Next.{MayLoad}
-use Rattle.order.specs.Paths.{BeginsNear, ComesNearer}
+use Rattle.order.specs.Paths.{BeginsNear, ComesNearer, path_left}
 use Rattle.order.specs.Places.{GoesOn, MayGoOn, RunComesNearer, next_step, placed}
 use Rattle.order.specs.Steps.{ReadFits, ReadFitsAt, ReadIsNearer, phase_left, read_left, run_try_left, tries_left}
 use Rattle.order.specs.Tries.{BeginsTry, IsInTry}
 use Rattle.order.specs.declared.load.ReadLoad.{ReadLoad}
+use Rattle.order.specs.declared.near.NearNext.TheVariants.{Load as NearLoad, Found as NearFound}
+use Rattle.order.specs.declared.near.NearRun.{NearRun}
 use Rattle.order.specs.declared.read.Children.{Children}
 use Rattle.order.specs.declared.read.ReadBegin.TheVariants as begins
 use Rattle.order.specs.declared.read.ReadNext.{ReadNext}
 use Rattle.order.specs.declared.read.ReadNext.TheVariants as next
 use Rattle.order.specs.declared.refused.Refused.{Refused}
 use Rattle.order.specs.declared.run.ReadAt.{ReadAt}
-use Rattle.order.specs.declared.run.ReadAt.TheVariants.{Start, Walk, Root, Load, Look, Validate}
+use Rattle.order.specs.declared.run.ReadAt.TheVariants.{Start, Walk, Near, Root, Load, Look, Validate}
 use Rattle.order.specs.declared.run.ReadRun.{ReadRun}
 use Rattle.order.proofs.Blaming.{first_look, look_failed, look_finalized, look_changed, reply_wider, tried_before, tried_here}
-use Rattle.order.proofs.Looking.{look_ready, replies, validates, walk_found}
+use Rattle.order.proofs.Nearby.{replies_near, searches_on}
+use Rattle.order.proofs.Looking.{look_ready, replies, validates}
 
 -- a walk to a key may go to a leaf
 may_walk : (lay : Layout) (trie : Bool) (k : ℕ) → lay.mode ≡ map_mode trie → MayGo lay (leaf_way trie) (ToKey k)
@@ -82,9 +86,36 @@ module _ {R A : Type 0} (means : ReadMeaning R A) (m : ReadRun R) where
       (record { key = key; goal = same ∙ goal; way = way; goes_to = to; last = last }, waits),
     )
 
-  -- after the leaf that it has found it looks at that fork
-  pub found_looks : (walk after : WalkRun) (side : Side) (turns : LastTurns) (c : Call) (h : History) (t : Turn Found) (f : Found) → ReadGoes means m c h → (key : ℕ) → walk.goal ≡ ToKey key → after.way ≡ leaf_way m.trie → WalksTo means m.read key side → AreLastTurns c h key turns → after.goal ≡ walk.goal → t ≡ Done f → MatchTurn t (WalkWaits after c h) (WalkAnswers after c h) → Looks means m.read m.snaps.items c h (first_children side (turn_to side turns).0) 0 (turn_to side turns).0
-  found_looks walk after side turns c h t f goes key goal way to last same done w = walk_found means m.read m.snaps.items c h (reading c h goes) key side turns f to last (subst (λ g. HasFoundGoal g c h f) (same ∙ goal) (found_leaf m.trie after.goal c h f (subst (λ by. FoundBy by after.goal c h f) way (rw done at w))))
+  -- it ends at the leaf of its key
+  pub walk_finds : (walk after : WalkRun) (c : Call) (h : History) (t : Turn Found) (f : Found) (key : ℕ) → walk.goal ≡ ToKey key → after.way ≡ leaf_way m.trie → after.goal ≡ walk.goal → t ≡ Done f → MatchTurn t (WalkWaits after c h) (WalkAnswers after c h) → HasFoundGoal (ToKey key) c h f
+  walk_finds walk after c h t f key goal way same done w = subst (λ g. HasFoundGoal g c h f) (same ∙ goal) (found_leaf m.trie after.goal c h f (subst (λ by. FoundBy by after.goal c h f) way (rw done at w)))
+
+  -- Its search of a leaf
+
+  module _ (c : Call) (begin h : History) (near : NearRun) (children : Children) (fork : NodeNo) (try : IsInTry c h begin m.limit m.tries) (goes : ReadGoes means m (begun_at c begin) h) (x : SearchesLeaf means m.read m.snaps.items (begun_at c begin) h near children fork.0) where
+    -- it waits for the load of its word
+    pub near_turns : (now : ReadRun R) (turn : Turn (Result A Refused)) → now ≡ record m { at = Near near children fork } → turn ≡ Ask (load LoadSettled (near_word near)) → ReadTurn means c h now turn
+    near_turns now turn is asked = rw (asked, is) (begin, try, goes, (x, refl))
+
+    -- it goes on so
+    pub near_goes_on : (next : NearRun) (now : ReadRun R) (turn : Turn (Result A Refused)) → NextStands near x.search.1.moment (NearLoad next) → now ≡ record m { at = Near next children fork } → turn ≡ Ask (load LoadSettled (near_word next)) → ReadTurn means c h now turn
+    near_goes_on next now turn on is asked = rw (asked, is) (begin, try, goes, (searches_on means m (begun_at c begin) h goes near children fork x next on, refl))
+
+    -- or that is its answer
+    pub near_answers : (found : Pair) (answer : A) → NextStands near x.search.1.moment (NearFound found) → means.told answer ≡ pair_or_none (Some found) → ReadAnswers means m c h (Ok answer)
+    near_answers found answer on tells = (
+      goes.reads.over,
+      inl (reply_wider c begin h _ _ try.begins.since (replies_near means m (begun_at c begin) h goes near children fork x found (means.told answer) on tells)),
+      tried_here c h begin m.limit m.tries try,
+    )
+
+    -- or it looks at that fork
+    pub near_looks : MayGoOn means c h m (next.Look children 0 fork)
+    near_looks = (begin, try, (goes, x.looks))
+
+  -- in either case with fewer steps left
+  pub near_less : {T : Type 0} (now : ReadRun R) (turn : Turn T) (step : Step) (near : NearRun) (children : Children) (fork : NodeNo) (nodes most : ℕ) → now ≡ record m { at = Near near children fork } → turn ≡ Ask step → near_left near.at < most → ReadIsNearer means now nodes turn (tries_left means m nodes + (most + length m.snaps.items + path_left nodes + means.behind m.read nodes))
+  near_less now turn step near children fork nodes most is asked less = rw (asked, is) (omega (arith, less))
 
   -- it begins with the load of the root's head, as it walks
   pub walks_first : (walk : WalkRun) (c : Call) (begin h : History) → BeginsTry c h m.limit m.tries → m.snaps.items ≡ [] → ReadGoes means m (begun_at c begin) h → (key : ℕ) (side : Side) → walk.goal ≡ ToKey key → walk.way ≡ leaf_way m.trie → walk.trail.node.0 ≡ 0 → WalksTo means m.read key side → ReadWaits means (record m { at = Walk (record walk { at = WalkRoot }) side no_turns }) c h (load LoadSettled (node 0 (Settled HeadWord)))
@@ -250,6 +281,10 @@ module _ {R A : Type 0} (means : ReadMeaning R A) (m : ReadRun R) where
     pub at_look : (got : Option ℕ) (children : Children) (low : ℕ) (llx : LlxRun) → m.at ≡ Look children low llx → ReadIsReady means m c h got → ToldInTry (λ d. Looks means m.read m.snaps.items d h children low llx.node.0 × ((look : History) × Extends look d.start × LlxIsReady TreeAllows llx (begun_at d look) h got))
     at_look None children low llx is r = absurd (let d : Look children low llx ≡ Start = sym is ∙ r.1 in cc)
     at_look (Some v) children low llx is r = told_at v (Look children low llx) is r
+
+    pub at_near : (got : Option ℕ) (near : NearRun) (children : Children) (fork : NodeNo) → m.at ≡ Near near children fork → ReadIsReady means m c h got → ToldInTry (λ d. SearchesLeaf means m.read m.snaps.items d h near children fork.0 × (near_value near h ≡ unwrap_or got 0))
+    at_near None near children fork is r = absurd (let d : Near near children fork ≡ Start = sym is ∙ r.1 in cc)
+    at_near (Some v) near children fork is r = told_at v (Near near children fork) is r
 
     pub at_root : (got : Option ℕ) → m.at ≡ Root → ReadIsReady means m c h got → ToldInTry (λ d. RunStands means m d h 0 × (value h (node 0 (Settled HeadWord)) ≡ unwrap_or got 0))
     at_root None is r = absurd (let d : Root ≡ Start = sym is ∙ r.1 in cc)

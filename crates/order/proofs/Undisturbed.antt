@@ -120,7 +120,7 @@ module _ (c : Call) (h : History) (run : IsMapRun c.layout h) (alone : IsUndistu
 
     -- and what a map at a moment of the call replies, it replies
     alone_replies : (call : MapCall) (told : MapReply) (map : List Pair) → IsReplyAt c h call told → Spells c.layout (value c.start) map → told ≡ reply call map
-    alone_replies call told map x spells = sym x.gives ∙ ap (reply call) (one_spelling c.layout (value x.moment) x.map map x.spelled (still map spells x.moment x.within (own_since c x.moment x.own)).spelled)
+    alone_replies call told map x spells = sym x.gives ∙ ap (reply call) (one_spelling c.layout (value x.moment) x.map map x.spelled (still map spells x.moment x.within (ends_trans x.moment x.first c.start x.since (own_since c x.first x.own))).spelled)
 
 -- what a read answers is what the map gives; it is not contended
 abbrev Tells : {A : Type 0} → (A → MapReply) → MapReply → Result A Refused → Type 0

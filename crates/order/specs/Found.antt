@@ -3,7 +3,7 @@ use Rattle.std.specs.Prelude.{◌≡◌, ◌⊎◌, ℕ, ◌^◌, ◌<◌, ◌�
 use Rattle.arena.specs.declared.head.Head.{Head as HeadParts}
 use Rattle.histories.specs.Common.{Layout, NodeNo, Settled, Head as HeadWord, More as MoreWord, Key as KeyWord, Value as ValueWord, Side, head_of, child, marked, node, first_key, History, value, Call}
 use Rattle.arena.specs.declared.word.Side.TheVariants as sides
-use Rattle.template.specs.Common.{Snap, Pair, held_behind, pair_in, slot_behind, reply, IsOnPath, IsMapRun, Spells, class, is_leaf, level, toward}
+use Rattle.template.specs.Common.{Snap, Pair, held_behind, pair_in, slot_behind, reply, Neighbour as NeighbourOf, IsOnPath, IsMapRun, Spells, class, is_leaf, level, toward}
 use Rattle.order.specs.Meaning.{ReadMeaning}
 use Rattle.order.specs.Reads.{Reads, Whenever, HasStood}
 use Rattle.order.specs.LastTurns.{first_children, turned_at}
@@ -63,10 +63,11 @@ module _ {R A : Type 0} (means : ReadMeaning R A) (r : R) where
   IsRightAt lay b = (map : List Pair) → Spells lay (value b) map → reply (means.call r) map ≡ means.found r
 
   -- What begins with a walk to this key goes down from the last fork where that turns to this side,
-  -- which may have been removed by then.
+  -- which may have been removed by then. The pair beside a key is sought by a walk to that.
   pub record WalksTo (key : ℕ) (side : Side) : Type 0 where
     pub asks : means.asks (means.call r)
     pub small : means.suits (means.call r) → key < 2 ^ 64
+    pub own : (of : Side) (k : ℕ) → means.call r ≡ NeighbourOf of k → k ≡ key
     pub waits : means.waiting r ≡ []
     pub turned : (b : History) (n : ℕ) → (value b (marked n) ≡ 0 → IsOnPath b key n) → toward (value b) n key ≡ turned_at side n → means.IsAtFork r b n (first_children side n)
 

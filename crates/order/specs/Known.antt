@@ -1,7 +1,7 @@
 -- When an ordered read may continue, what it waits for, and what its answer says.
 use Rattle.std.specs.Prelude.{◌≡◌, ◌⊎◌, ℕ, ◌+◌, ◌-◌, ◌≤◌, Bool, false, List, [], Option, Some, None, Result, Ok, Err}
 use Rattle.histories.specs.Common.{Turn, Step, LoadSettled, Settled, Head as HeadWord, Side, node, History, value, Extends, Call, MatchTurn, begun_at}
-use Rattle.template.specs.Common.{load, LlxIsReady, LlxWaits, AreFinished, VlxIsReady, VlxWaits, Snap, Pair, reply, TreeAllows, is_leaf, toward}
+use Rattle.template.specs.Common.{load, LlxIsReady, LlxWaits, AreFinished, VlxIsReady, VlxWaits, Snap, Pair, Neighbour as NeighbourOf, reply, TreeAllows, is_leaf, toward}
 use Rattle.template.specs.Balance.{leaf_way, map_mode}
 use Rattle.template.specs.Common.{IsContended, HasLostTriesTo, IsOwnMoment, HasTriedAtMost, WalkIsReady, WalkWaits, Key as ToKey}
 use Rattle.template.specs.Trails.{IsSurelyOn}
@@ -11,15 +11,18 @@ use Rattle.template.specs.declared.walk.WalkRun.{WalkRun}
 use Rattle.order.specs.Found.{IsRightAt, Looks, Stands, WalksTo}
 use Rattle.order.specs.Loads.{load_value, load_word}
 use Rattle.order.specs.Meaning.{ReadMeaning}
+use Rattle.order.specs.Near.{NearKnows, near_value, near_word}
 use Rattle.order.specs.Next.{MayLoad}
 use Rattle.order.specs.Reads.{AllHold, Reads}
 use Rattle.order.specs.Replies.{IsReplyAt}
 use Rattle.order.specs.Tries.{BeginsTry, IsInTry}
 use Rattle.order.specs.LastTurns.{no_turns, turn_to}
+use Rattle.order.specs.declared.near.NearRun.{NearRun}
+use Rattle.order.specs.declared.read.Children.{Children}
 use Rattle.order.specs.declared.refused.Refused.{Refused}
 use Rattle.order.specs.declared.refused.Refused.TheVariants.{Contended, NoMemory}
 use Rattle.order.specs.declared.run.ReadAt.{ReadAt}
-use Rattle.order.specs.declared.run.ReadAt.TheVariants.{Start, Walk, Root, Load, Look, Validate}
+use Rattle.order.specs.declared.run.ReadAt.TheVariants.{Start, Walk, Near, Root, Load, Look, Validate}
 use Rattle.order.specs.declared.run.ReadRun.{ReadRun}
 use Rattle.order.specs.declared.last_turns.LastTurns.{LastTurns}
 
@@ -64,6 +67,16 @@ module _ {R A : Type 0} (means : ReadMeaning R A) where
     pub goes_to : WalksTo means r key side
     pub last : AreLastTurns c h key turns
 
+  -- this search of a leaf is for what it looks for
+  abbrev pub IsSearchFor : R → Call → History → NearRun → Type 0
+  IsSearchFor r c h near = (means.call r ≡ NeighbourOf near.side near.key) × NearKnows near c h
+
+  -- It searches the leaf where its walk has ended. If that does not have the pair, it may look at
+  -- this fork.
+  pub record SearchesLeaf (r : R) (snaps : List Snap) (c : Call) (h : History) (near : NearRun) (children : Children) (fork : ℕ) : Type 0 where
+    pub looks : Looks means r snaps c h children 0 fork
+    pub search : IsSearchFor r c h near
+
   -- its VLX has begun at an own moment of the call, at which what it has found was right if all
   -- infos were as found
   pub record Validates (r : R) (snaps : List Snap) (c : Call) (h begin : History) : Type 0 where
@@ -90,6 +103,7 @@ module _ {R A : Type 0} (means : ReadMeaning R A) where
     abbrev pub ReadWaitsAt : Step → ReadAt → Type 0
     ReadWaitsAt s Start = ⊥
     ReadWaitsAt s (Walk walk side turns) = Walks m.read m.trie c h walk side turns × WalkWaits walk c h s
+    ReadWaitsAt s (Near near children fork) = SearchesLeaf m.read m.snaps.items c h near children fork.0 × (s ≡ load LoadSettled (near_word near))
     ReadWaitsAt s Root = RunStands 0 × (s ≡ load LoadSettled (node 0 (Settled HeadWord)))
     ReadWaitsAt s (Load of) = MayLoad means m.read m.snaps.items c h of × (s ≡ load LoadSettled (load_word of))
     ReadWaitsAt s (Look children low llx) = Looks means m.read m.snaps.items c h children low llx.node.0 × ((begin : History) × Extends begin c.start × LlxWaits TreeAllows llx (begun_at c begin) h s)
@@ -99,6 +113,7 @@ module _ {R A : Type 0} (means : ReadMeaning R A) where
     abbrev pub ReadIsToldAt : ℕ → ReadAt → Type 0
     ReadIsToldAt v Start = ⊥
     ReadIsToldAt v (Walk walk side turns) = Walks m.read m.trie c h walk side turns × WalkIsReady walk c h (Some v)
+    ReadIsToldAt v (Near near children fork) = SearchesLeaf m.read m.snaps.items c h near children fork.0 × (near_value near h ≡ v)
     ReadIsToldAt v Root = RunStands 0 × (value h (node 0 (Settled HeadWord)) ≡ v)
     ReadIsToldAt v (Load of) = MayLoad means m.read m.snaps.items c h of × (load_value h of ≡ v)
     ReadIsToldAt v (Look children low llx) = Looks means m.read m.snaps.items c h children low llx.node.0 × ((begin : History) × Extends begin c.start × LlxIsReady TreeAllows llx (begun_at c begin) h (Some v))

@@ -3,6 +3,7 @@ pub mod Tries
 pub mod Reads
 pub mod Loads
 pub mod Meaning
+pub mod Near
 pub mod Paths
 pub mod LastTurns
 pub mod Found

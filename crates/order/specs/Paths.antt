@@ -4,6 +4,7 @@ use Rattle.std.specs.Prelude.{◌≡◌, ℕ, ◌+◌, ◌*◌, ◌-◌, ◌<◌
 use Rattle.arena.specs.declared.head.Head.{Head as HeadParts}
 use Rattle.histories.specs.Common.{head_of, slot_no}
 use Rattle.order.specs.Meaning.{ReadMeaning}
+use Rattle.order.specs.Near.{near_most}
 use Rattle.order.specs.declared.load.LeafPlace.{LeafPlace}
 use Rattle.order.specs.declared.load.ReadLoad.{ReadLoad}
 use Rattle.order.specs.declared.load.ReadLoad.TheVariants.{Head, Key, More, Pair, Value, High}
@@ -33,7 +34,7 @@ slots_left p = 12 - 3 * slot_no p.slot
 module _ {R A : Type 0} (means : ReadMeaning R A) (r : R) (nodes : ℕ) where
   -- a try that begins so takes no more steps than a try may
   abbrev pub BeginsNear : ReadBegin A → Type 0
-  BeginsNear (Walk key side) = 3 * (2 + nodes) + 5 + path_left nodes + means.behind r nodes ≤ means.try_left (means.call r) nodes
+  BeginsNear (Walk key side) = 3 * (2 + nodes) + 5 + near_most + path_left nodes + means.behind r nodes ≤ means.try_left (means.call r) nodes
   BeginsNear Root = path_left nodes + means.behind r nodes ≤ means.try_left (means.call r) nodes
   BeginsNear (Answer answer) = Unit {0}
 

@@ -3,11 +3,13 @@ use Rattle.std.specs.Prelude.{◌≡◌, ℕ, suc, ◌⊎◌, List}
 use Rattle.histories.specs.Common.{History, value, Extends, Call, MatchTurn, Turn}
 use Rattle.template.specs.Common.{Pair, MapCall, MapReply, reply, Spells, IsContended, IsOwnMoment}
 
--- at a moment of the call, from its first own row on, the words spell a map that replies this
+-- at a moment of the call, from an own row on, the words spell a map that replies this
 pub record IsReplyAt (c : Call) (h : History) (call : MapCall) (told : MapReply) : Type 0 where
   pub moment : History
   pub within : Extends h moment
-  pub own : IsOwnMoment c moment
+  pub first : History
+  pub own : IsOwnMoment c first
+  pub since : Extends moment first
   pub map : List Pair
   pub spelled : Spells c.layout (value moment) map
   pub gives : reply call map ≡ told

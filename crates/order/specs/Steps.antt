@@ -1,5 +1,5 @@
 -- How many steps an ordered read may still ask for: three a node of its walk and five more at its
--- leaf, and 67 a node of each path that it goes down with LLXs. What stands for the taken nodes in
+-- leaf, six for a search in that, and 67 a node of each path that it goes down with LLXs. What stands for the taken nodes in
 -- a trie is `nodes_by` of template.
 use Rattle.std.specs.Prelude.{◌≡◌, ℕ, ◌+◌, ◌*◌, ◌-◌, ◌<◌, length, Option, unwrap_or}
 use Rattle.histories.specs.Common.{head_of, MatchTurn, Turn}
@@ -7,9 +7,10 @@ use Rattle.template.specs.Balance.{leaf_way}
 use Rattle.template.specs.Common.{llx_left, vlx_left, walk_left}
 use Rattle.template.specs.Walk.Steps.{WalkFitsAt}
 use Rattle.order.specs.Meaning.{ReadMeaning}
+use Rattle.order.specs.Near.{near_left, near_most}
 use Rattle.order.specs.Paths.{HeadFits, LoadFits, load_left, path_left}
 use Rattle.order.specs.declared.run.ReadAt.{ReadAt}
-use Rattle.order.specs.declared.run.ReadAt.TheVariants.{Start, Walk, Root, Load, Look, Validate}
+use Rattle.order.specs.declared.run.ReadAt.TheVariants.{Start, Walk, Near, Root, Load, Look, Validate}
 use Rattle.order.specs.declared.run.ReadRun.{ReadRun}
 
 module _ {R A : Type 0} (means : ReadMeaning R A) (m : ReadRun R) where
@@ -24,7 +25,8 @@ module _ {R A : Type 0} (means : ReadMeaning R A) (m : ReadRun R) where
   -- and how many steps are left in this one at this place
   abbrev pub phase_left : ℕ → ReadAt → ℕ
   phase_left nodes Start = run_try_left nodes
-  phase_left nodes (Walk walk side turns) = walk_left walk.at nodes + length m.snaps.items + path_left nodes + means.behind m.read nodes
+  phase_left nodes (Walk walk side turns) = walk_left walk.at nodes + near_most + length m.snaps.items + path_left nodes + means.behind m.read nodes
+  phase_left nodes (Near near children fork) = near_left near.at + length m.snaps.items + path_left nodes + means.behind m.read nodes
   phase_left nodes Root = length m.snaps.items + path_left nodes - 1 + means.behind m.read nodes
   phase_left nodes (Load load) = length m.snaps.items + load_left means m.read nodes load - 1
   phase_left nodes (Look children level llx) = llx_left llx.at + length m.snaps.items + 1 + 67 * (1 + nodes - level) + means.behind m.read nodes

@@ -339,6 +339,16 @@ impl Read for Neighbour {
     }
 
     #[inline(always)]
+    fn beside(&self) -> Option<(u64, Side)> {
+        Some((self.key, self.side))
+    }
+
+    #[inline(always)]
+    fn tell(&self, pair: Pair) -> Option<Pair> {
+        Some(pair)
+    }
+
+    #[inline(always)]
     fn answer(&mut self) -> Option<Pair> {
         self.found
     }

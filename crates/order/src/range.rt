@@ -6,7 +6,7 @@ use crate::push::push_onto;
 use crate::read::{Children, Read, ReadBegin, ReadNext};
 use crate::refused::Refused;
 use crate::run::ReadRun;
-use arena::{Head, NodeNo, Slot};
+use arena::{Head, NodeNo, Side, Slot};
 use ordered_map::Pair;
 use std::alloc::Global;
 use std::mem;
@@ -210,6 +210,16 @@ impl Read for Range {
         } else {
             Err(Refused::NoMemory)
         }
+    }
+
+    #[inline(always)]
+    fn beside(&self) -> Option<(u64, Side)> {
+        None
+    }
+
+    #[inline(always)]
+    fn tell(&self, _pair: Pair) -> Vec<Pair> {
+        Vec::new(self.alloc)
     }
 
     #[inline(always)]

@@ -1,8 +1,10 @@
 //! Ordered reads of the tree, as data for the machine that makes them.
-ghost use Rattle.std.specs.Prelude.{◌≡◌, ℕ, ◌+◌, ◌*◌, ◌-◌, ◌<◌, ◌≤◌, List, IfOk};
+ghost use Rattle.std.specs.Prelude.{◌≡◌, ℕ, ◌+◌, ◌*◌, ◌-◌, ◌<◌, ◌≤◌, List, IfOk, Some};
 ghost use Rattle.arena.specs.History.{History};
 ghost use Rattle.arena.specs.Machines.{Call};
 ghost use Rattle.prims.specs.declared.snap.Snap.{Snap};
+ghost use Rattle.arena.specs.declared.word.Side.{Side};
+ghost use Rattle.ordered_map.specs.OrderedMap.{Neighbour as NeighbourOf, pair_or_none};
 ghost use Rattle.template.specs.Trails.{IsOwnMoment};
 ghost use Rattle.order.specs.Meaning.{ReadMeaning};
 ghost use Rattle.order.specs.Found.{IsReading, Stands, IsAtLowFork, StandsIn, TakesPair, BeginsSo, GoesBelow, head_at, key_at, place_key, place_value};
@@ -116,6 +118,15 @@ pub trait Read {
         ensures same { means.call self.new ≡ means.call self.old }
         ensures nearer { (nodes : ℕ) → IfOk result (λ next. ComesNearer means self.new nodes next
             (slots_left place - 3 + means.behind self.old nodes)) };
+
+    /// Whether it looks for the pair beside a key, which is that of its walk, and on which side.
+    fn beside(&self) -> Option<(u64, Side)>
+        ensures { (key : ℕ) (side : Side) → result ≡ Some (key, side) → means.call self.now ≡ NeighbourOf side key };
+
+    /// What it answers where that pair is this.
+    fn tell(&self, pair: Pair) -> Self::Answer
+        ensures { (key : ℕ) (side : Side) → means.call self.now ≡ NeighbourOf side key
+            → means.told result ≡ pair_or_none (Some pair) };
 
     /// What it has found.
     fn answer(&mut self) -> Self::Answer

@@ -6,6 +6,7 @@ ghost use Rattle.order.specs.LastTurns.{Counts, CountsNot, TurnsSo};
 use crate::known_load::{HeadLoad, HighLoad, KeyLoad, KnownLoad, MoreLoad, PairLoad, ValueLoad};
 use crate::last_turns::LastTurns;
 use crate::load::ReadLoad;
+use crate::near::{NearAt, NearNext, NearRun};
 use crate::push::push_onto;
 use crate::read::{Children, Read, ReadBegin, ReadNext};
 use crate::refused::Refused;
@@ -15,7 +16,7 @@ use arena::{
 use ordered_map::shares;
 use prims::{Llx, LlxAt, LlxRun, Snap, Vlx, VlxRun};
 use std::alloc::Global;
-use template::{Goal, Tree, WalkAt, WalkRun, Way};
+use template::{Found, Goal, Tree, WalkAt, WalkRun, Way};
 
 /// The step that a read has asked for.
 #[derive(Clone, Copy, Debug, PartialEq, Eq)]
@@ -28,6 +29,13 @@ pub enum ReadAt {
         walk: WalkRun,
         side: Side,
         turns: LastTurns,
+    },
+    /// The load of a word of the leaf where its walk has ended, in a search of that. From this fork it
+    /// goes down if the leaf does not have what it looks for.
+    Near {
+        near: NearRun,
+        children: Children,
+        fork: NodeNo,
     },
     /// The load of the root's head.
     Root,
@@ -79,8 +87,12 @@ impl<R: Read + Drop> ReadRun<R> {
     ghost use Rattle.template.specs.Walk.Steps.{walk_left, WalkFitsAt};
     ghost use Rattle.template.specs.Trails.{IsOwnMoment};
     ghost use Rattle.order.specs.Found.{BeginsSo, WalksTo, Looks};
-    ghost use Rattle.order.specs.Known.{AreLastTurns, HasNotBegun, IsSameRead, ReadGoes, ReadIsReady, ReadTurn, Validates};
+    ghost use Rattle.order.specs.Known.{AreLastTurns, HasNotBegun, IsSameRead, ReadGoes, IsSearchFor, ReadIsReady, ReadTurn, SearchesLeaf, Validates};
     ghost use Rattle.order.specs.Loads.{load_value};
+    ghost use Rattle.order.specs.Near.{near_left, near_most, near_value, near_word};
+    ghost use Rattle.order.specs.declared.near.NearRun.{NearRun as NearRunOf};
+    ghost use Rattle.ordered_map.specs.declared.rule.Goal.TheVariants.{Key as ToKey};
+    ghost use Rattle.template.specs.FoundLeaf.{HasFoundGoal};
     ghost use Rattle.order.specs.Next.{MayLoad};
     ghost use Rattle.order.specs.Paths.{BeginsNear, ComesNearer, LoadFits, load_left, path_left};
     ghost use Rattle.order.specs.Places.{GoesOn, MayGoOn, RunComesNearer};
@@ -193,7 +205,7 @@ impl<R: Read + Drop> ReadRun<R> {
             let room : ℕ = nodes_by self.old.trie nodes in walk.way ≡ leaf_way self.old.trie → WalkFitsAt walk.at (unwrap_or got 0) room
             → ReadIsNearer R.means self.new room result
             (tries_left R.means self.old room
-            + (walk_left walk.at room + length self.old.snaps.items + path_left room + R.means.behind self.old.read room)) }
+            + (walk_left walk.at room + near_most + length self.old.snaps.items + path_left room + R.means.behind self.old.read room)) }
         ensures tries { self.new.tries ≡ self.old.tries }
     {
         let before = walk;
@@ -203,7 +215,104 @@ impl<R: Read + Drop> ReadRun<R> {
                 self.at = ReadAt::Walk { walk, side, turns };
                 Turn::Ask(step)
             }
-            Turn::Done(_) => self.look(turns.children(side), 0, turns.to(side)),
+            Turn::Done(found) => self.walked(found, side, turns),
+        }
+    }
+
+    /// Searches the leaf where its walk has ended, if it may, or looks at the fork from which it goes
+    /// down again.
+    fn walked(
+        &mut self,
+        found: Found,
+        side: Side,
+        turns: LastTurns,
+    ) -> Turn<Result<R::Answer, Refused>>
+        ensures turn { (c : Call) (begin h : History) (key : ℕ) → IsInTry c h begin self.old.limit self.old.tries
+            → ReadGoes R.means self.old (begun_at c begin) h → WalksTo R.means self.old.read key side
+            → AreLastTurns (begun_at c begin) h key turns → HasFoundGoal (ToKey key) (begun_at c begin) h found
+            → ReadTurn R.means c h self.new result }
+        ensures same { IsSameRead R.means self.old self.new }
+        ensures nearer { (nodes : ℕ) → ReadIsNearer R.means self.new nodes result
+            (tries_left R.means self.old nodes
+            + (near_most + length self.old.snaps.items + path_left nodes + R.means.behind self.old.read nodes)) }
+        ensures tries { self.new.tries ≡ self.old.tries }
+    {
+        let (children, fork) = (turns.children(side), turns.to(side));
+        match self.nearby(found, turns) {
+            Some(near) => self.near(near, children, fork),
+            None => self.look(children, 0, fork),
+        }
+    }
+
+    /// The search of the leaf where its walk has ended, if it looks for the pair beside a key: in a
+    /// trie, where the fork above the leaf is the last that counts on its side, so that the leaf was
+    /// on the path of the key. Nothing is above that fork in a leaf above all keys.
+    #[inline(always)]
+    pub fn nearby(&self, found: Found, turns: LastTurns) -> Option<NearRun>
+        ensures knows { (c : Call) (h : History) (key : ℕ) (side : Side) (near : NearRunOf) → result ≡ Some near
+            → ReadGoes R.means self.now c h → WalksTo R.means self.now.read key side → AreLastTurns c h key turns
+            → HasFoundGoal (ToKey key) c h found → IsSearchFor R.means self.now.read c h near }
+        ensures first { (near : NearRunOf) → result ≡ Some near → near.at ≡ NearAt.Key Slot.First None }
+        ensures tree { self.now.trie ≡ false → result ≡ None }
+    {
+        let above = turns.to(found.trail.side);
+        if self.trie && found.head.class == 0 && above.0 == found.trail.parent.0 {
+            let (key, side) = self.read.beside()?;
+            let (node, more, slot, last) = (found.trail.node, found.more, Slot::First, None);
+            let at = NearAt::Key { slot, last };
+            return Some(NearRun {
+                key,
+                side,
+                node,
+                more,
+                at,
+            });
+        }
+        None
+    }
+
+    /// Begins the load of a word of a leaf that it searches.
+    fn near(
+        &mut self,
+        near: NearRun,
+        children: Children,
+        fork: NodeNo,
+    ) -> Turn<Result<R::Answer, Refused>>
+        ensures stands { self.new ≡ record self.old { at = ReadAt.Near near children fork } }
+        ensures asked { result ≡
+            Turn.Ask record { kind = Kind.LoadSettled; word = near_word near; access = Access.Load } }
+    {
+        let at = ReadAt::Near {
+            near,
+            children,
+            fork,
+        };
+        self.load(at, Kind::LoadSettled, near.word())
+    }
+
+    /// Continues with what the last step of its search of a leaf found: if that has the pair, it
+    /// ends.
+    fn near_on(
+        &mut self,
+        near: NearRun,
+        children: Children,
+        fork: NodeNo,
+        value: u64,
+    ) -> Turn<Result<R::Answer, Refused>>
+        ensures turn { (c : Call) (begin h : History) → IsInTry c h begin self.old.limit self.old.tries
+            → ReadGoes R.means self.old (begun_at c begin) h
+            → SearchesLeaf R.means self.old.read self.old.snaps.items (begun_at c begin) h near children fork.0
+            → near_value near h ≡ value → ReadTurn R.means c h self.new result }
+        ensures same { IsSameRead R.means self.old self.new }
+        ensures nearer { (nodes : ℕ) → ReadIsNearer R.means self.new nodes result
+            (tries_left R.means self.old nodes
+            + (near_left near.at + length self.old.snaps.items + path_left nodes + R.means.behind self.old.read nodes)) }
+        ensures tries { self.new.tries ≡ self.old.tries }
+    {
+        match near.found(value) {
+            NearNext::Load(now) => self.near(now, children, fork),
+            NearNext::Found(pair) => Turn::Done(Ok(self.read.tell(pair))),
+            NearNext::Nothing => self.look(children, 0, fork),
         }
     }
 
@@ -418,6 +527,11 @@ impl<R: Read + Drop> ReadRun<R> {
         match self.at {
             ReadAt::Start => self.begin(),
             ReadAt::Walk { walk, side, turns } => self.walk_on(walk, side, turns, got),
+            ReadAt::Near {
+                near,
+                children,
+                fork,
+            } => self.near_on(near, children, fork, value),
             ReadAt::Root => {
                 let next = self.read.head_on(Head::of(value), NodeNo(0));
                 self.stand(next)

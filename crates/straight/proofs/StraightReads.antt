@@ -6,7 +6,11 @@ use Rattle.template.specs.Walk.Places.{way_from}
 use Rattle.template.specs.declared.walk.Way.{Way}
 use Rattle.straight.specs.StraightWalk.{KeepsTurns}
 use Rattle.template.specs.Balance.{leaf_way, nodes_by}
-use Rattle.order.specs.Known.{AreLastTurns}
+use Rattle.order.specs.Known.{AreLastTurns, IsSearchFor}
+use Rattle.order.specs.Near.{NearStands, NextStands, near_most, near_value, near_word}
+use Rattle.order.specs.declared.near.NearNext.{NearNext}
+use Rattle.order.specs.declared.near.NearNext.TheVariants.{Load as NearLoad, Found as NearFound}
+use Rattle.order.specs.declared.near.NearRun.{NearRun}
 use Rattle.order.proofs.Lemmas.{turned}
 use Rattle.template.specs.Common.{path_key}
 use Rattle.std.proofs.Common.{◌≡◌, ◌∙◌, ℕ, suc, ◌+◌, ◌-◌, ◌*◌, ◌<◌, ◌≤◌, Bool, true, false, List, None, Some, Result, Ok, length, [], inl, inr, refl, sym, ap, subst, arith, Err}
@@ -30,8 +34,8 @@ use Rattle.order.specs.declared.read.ReadNext.TheVariants.{Load as LoadNext, Loo
 use Rattle.order.specs.declared.refused.Refused.{Refused}
 use Rattle.order.specs.declared.run.ReadAt.TheVariants.{Start, Look, Walk, Validate}
 use Rattle.order.specs.declared.run.ReadRun.{ReadRun}
-use Rattle.order.proofs.Lemmas.{answers_all, answers_right, begins_root, begins_walk, ends_refused, next_waits, placed_nearer, walk_found, walk_waits}
-use Rattle.template.specs.Common.{load, IsSnapshot, snap_at, VlxAnswers, VlxWaits, LlxRun, Snap, Same, TreeAllows, IsOwnMoment, HasFoundGoal, Key as ToKey}
+use Rattle.order.proofs.Lemmas.{answers_all, answers_right, begins_root, begins_walk, ends_refused, found_then, near_answers, next_waits, placed_nearer, searches_on, walk_found, walk_waits}
+use Rattle.template.specs.Common.{load, IsSnapshot, snap_at, VlxAnswers, VlxWaits, LlxRun, Neighbour as NeighbourOf, Pair, pair_or_none, Snap, Same, TreeAllows, IsOwnMoment, HasFoundGoal, Key as ToKey}
 use Rattle.prims.specs.Vlx.Known.{HasFoundUnchanged, VlxIsTold}
 use Rattle.prims.specs.Vlx.Laws.{all_same, looked_on}
 use Rattle.prims.specs.declared.llx.LlxAt.TheVariants.{Marked, StateAgain}
@@ -44,7 +48,7 @@ use Rattle.straight.specs.CallKinds.{Calls}
 use Rattle.straight.specs.Hosts.{HostedIsTold, HostedStands, HostedWaits}
 use Rattle.straight.specs.Inside.{InnerIsTold, InnerWaits}
 use Rattle.straight.specs.StraightLlx.{llx_at, Looker, LookerSnaps}
-use Rattle.straight.specs.StraightReads.{Reader, ReaderBegins, ReaderEnds, ReaderLooksAgain, ReaderRoots, ReaderWaits, at_root}
+use Rattle.straight.specs.StraightReads.{Reader, ReaderBegins, ReaderEnds, ReaderHasWalked, ReaderLooksAgain, ReaderRoots, ReaderSearches, ReaderWaits, at_root, searching}
 use Rattle.straight.specs.StraightVlx.{Validator}
 use Rattle.straight.specs.StraightWalk.{Walker, WalkerFinds, WalkerWaits}
 use Rattle.tables.specs.TableRule.{history_of}
@@ -291,11 +295,49 @@ module _ {M R A : Type 0} {o : Calls M} {means : ReadMeaning R A} (r : Reader o 
     found_leaf false goal c h f x = x
     found_leaf true goal c h f x = x
 
-    -- behind the leaf that it finds it looks at the last fork that counts where it has turned to its side
-    pub walk_looks : (ps : List SeatedPass) (f : Found) (turns : LastTurns) → WalkerFinds walker ps way (ToKey key) turns f → ReaderWaits r ps m (LookNext (first_children side (turn_to side turns).0) 0 (turn_to side turns))
+    -- it ends at the leaf of that
+    pub walk_ends : (ps : List SeatedPass) (f : Found) (turns : LastTurns) → WalkerFinds walker ps way (ToKey key) turns f → ReaderHasWalked r ps m side turns f
     unfolding walker
-    walk_looks ps f turns x = on_to ps (walking x.last turns) m (LookNext (first_children side (turn_to side turns).0) 0 (turn_to side turns)) x.told (itself means m)
-        (λ h run y. let c = begun_at r.call y.0 in let w = y.4.0 in (y.0, y.1, (y.2, walk_found means m.read m.snaps.items c h (reading m c h y.2) w.key side turns f w.goes_to w.last (subst (λ g. HasFoundGoal g c h f) (sym x.is_goal ∙ w.goal) (found_leaf m.trie (ToKey key) c h f (x.finds c h y.4.1)))))) x.so
+    walk_ends ps f turns x = record { last = x.last; told = x.told; finds = λ d h y. subst (λ g. HasFoundGoal g d h f) (sym x.is_goal) (found_leaf m.trie (ToKey key) d h f (x.finds d h y)); so = x.so }
+
+  -- Behind its walk
+  module _ (m : ReadRun R) (side : Side) (turns : LastTurns) (f : Found) (ps : List SeatedPass) (x : ReaderHasWalked r ps m side turns f) where
+    abbrev walked : ReadRun R
+    walked = record m { at = Walk x.last side turns }
+
+    -- it may look at the last fork that counts where it has turned to its side
+    looks_behind : (h : History) (y : ReadIsReady means walked r.call h (Some x.told)) → Looks means m.read m.snaps.items (begun_at r.call y.0) h (first_children side (turn_to side turns).0) 0 (turn_to side turns).0
+    looks_behind h y = let c = begun_at r.call y.0 in let w = y.4.0 in walk_found means m.read m.snaps.items c h (reading m c h y.2) w.key side turns f w.goes_to w.last (subst (λ g. HasFoundGoal g c h f) w.goal (x.finds c h y.4.1))
+
+    pub walked_looks : ReaderWaits r ps m (LookNext (first_children side (turn_to side turns).0) 0 (turn_to side turns))
+    walked_looks = on_to ps walked m (LookNext (first_children side (turn_to side turns).0) 0 (turn_to side turns)) x.told (itself means m) (λ h run y. (y.0, y.1, (y.2, looks_behind h y))) x.so
+
+    -- or searches the leaf before that
+    pub walked_searches : (near : NearRun) → ((c : Call) (h : History) (key : ℕ) (of : Side) → ReadGoes means m c h → WalksTo means m.read key of → AreLastTurns c h key turns → HasFoundGoal (ToKey key) c h f → IsSearchFor means m.read c h near) → ReaderSearches r ps m near (first_children side (turn_to side turns).0) (turn_to side turns)
+    walked_searches near knows = told_on r ps walked (searching m near (first_children side (turn_to side turns).0) (turn_to side turns)) (Some x.told) (Ask (load LoadSettled (near_word near))) (itself means m)
+        (λ h run y. let c = begun_at r.call y.0 in let w = y.4.0 in (y.0, y.1, y.2, (record { looks = looks_behind h y; search = knows c h w.key side y.2 w.goes_to w.last (subst (λ g. HasFoundGoal g c h f) w.goal (x.finds c h y.4.1)) }, refl))) x.so
+
+  -- It searches a leaf
+  module _ (m : ReadRun R) (children : Children) (fork : NodeNo) (near : NearRun) (ps : List SeatedPass) (v : ℕ) (x : IsTold ps (searching m near children fork) v) where
+    -- what the load of its word has found takes it to what comes next
+    abbrev TakesTo : NearNext → Type 0
+    TakesTo next = (b : History) → NearStands near b near.at → near_value near b ≡ v → NextStands near b next
+
+    stands : (next : NearNext) → TakesTo next → (h : History) (y : ReadIsReady means (searching m near children fork) r.call h (Some v)) → NextStands near y.4.0.search.1.moment next
+    stands next on h y = let z = y.4.0 in on z.search.1.moment z.search.1.stands (found_then means m (begun_at r.call y.0) h y.2 near children fork z v y.4.1)
+
+    pub search_next : (next : NearRun) → TakesTo (NearLoad next) → ReaderSearches r ps m next children fork
+    search_next next on = told_on r ps (searching m near children fork) (searching m next children fork) (Some v) (Ask (load LoadSettled (near_word next))) (itself means m)
+        (λ h run y. (y.0, y.1, y.2, (searches_on means m (begun_at r.call y.0) h y.2 near children fork y.4.0 next (stands (NearLoad next) on h y), refl))) x
+
+    -- or that is the pair
+    pub search_ends : (found : Pair) (answer : A) → TakesTo (NearFound found) → ((key : ℕ) (of : Side) → means.call m.read ≡ NeighbourOf of key → means.told answer ≡ pair_or_none (Some found)) → ReaderEnds r ps m (Ok answer)
+    search_ends found answer on tells = told_on r ps (searching m near children fork) m (Some v) (Done (Ok answer)) (itself means m)
+        (λ h run y. near_answers means m r.call y.0 h near children fork y.1 y.2 y.4.0 found answer (stands (NearFound found) on h y) (tells near.key near.side y.4.0.search.0)) x
+
+    -- or it looks
+    pub search_looks : ReaderWaits r ps m (LookNext children 0 fork)
+    search_looks = on_to ps (searching m near children fork) m (LookNext children 0 fork) v (itself means m) (λ h run y. (y.0, y.1, (y.2, y.4.0.looks))) x
 
   -- A try that has begun otherwise
   module _ (ps : List SeatedPass) (old m : ReadRun R) (is : IsSameRead means old m) where
@@ -316,7 +358,7 @@ module _ {R A : Type 0} (means : ReadMeaning R A) (old m : ReadRun R) (is : IsSa
       (subst (λ n. after ≤ before + n) (λ i. tries i * means.try_left (is.0 i) nodes + means.try_left (is.0 i) nodes) few)
 
   -- its walk, and the rest
-  pub walk_in_try : (children : Children) (turn : NodeNo) (key mid : ℕ) (side : Side) → BeginsNear means m.read nodes (Walking key side) → mid ≤ before + (3 * (2 + nodes) + 5) → after ≤ mid + suc (read_left means (placed m (LookNext children 0 turn)) nodes) → after ≤ before + read_left means old nodes
+  pub walk_in_try : (children : Children) (turn : NodeNo) (key mid : ℕ) (side : Side) → BeginsNear means m.read nodes (Walking key side) → mid ≤ before + (3 * (2 + nodes) + 5) → after ≤ mid + (near_most + suc (read_left means (placed m (LookNext children 0 turn)) nodes)) → after ≤ before + read_left means old nodes
   walk_in_try children turn key mid side near walks rest = in_try (let e = ap length none in omega (arith, e, near, walks, rest))
 
   -- or all from the root on

@@ -2,19 +2,26 @@
 -- before what comes next.
 use Rattle.std.specs.Prelude.{ℕ, suc, ◌+◌, ◌≤◌, Bool, List, Result, Ok, Err}
 use Rattle.atomic_table.specs.declared.shared.Seat.{Seat}
-use Rattle.histories.specs.Common.{Ghosts as Machine, NodeNo, ScxNo, LoadSettled, LoadState, Settled, Head as HeadWord, node, state}
+use Rattle.histories.specs.Common.{Ghosts as Machine, Call, History, NodeNo, ScxNo, Side, LoadSettled, LoadState, Settled, Head as HeadWord, node, state}
 use Rattle.arena.specs.declared.machine.Shape.{Ghosts as Shape}
 use Rattle.template.specs.Balance.{nodes_by}
-use Rattle.template.specs.Common.{load, TreeAllows}
+use Rattle.template.specs.Common.{load, HasFoundGoal, TreeAllows, WalkIsTold}
+use Rattle.template.specs.declared.walk.Found.{Found}
+use Rattle.template.specs.declared.walk.WalkRun.{WalkRun}
 use Rattle.prims.specs.declared.llx.LlxAt.TheVariants.{StateAgain}
 use Rattle.order.specs.Known.{IsSameRead, ReadAnswers, ReadIsReady, ReadWaits}
+use Rattle.order.specs.LastTurns.{first_children, turn_to}
 use Rattle.order.specs.Meaning.{ReadMeaning}
+use Rattle.order.specs.Near.{near_most, near_word}
 use Rattle.order.specs.Places.{next_step, placed}
 use Rattle.order.specs.Steps.{read_left}
+use Rattle.order.specs.declared.last_turns.LastTurns.{LastTurns}
+use Rattle.order.specs.declared.near.NearRun.{NearRun}
 use Rattle.order.specs.declared.read.Children.{Children}
 use Rattle.order.specs.declared.read.ReadNext.{ReadNext}
+use Rattle.order.specs.declared.read.ReadNext.TheVariants.{Look as LookNext}
 use Rattle.order.specs.declared.refused.Refused.{Refused}
-use Rattle.order.specs.declared.run.ReadAt.TheVariants.{Look, Root}
+use Rattle.order.specs.declared.run.ReadAt.TheVariants.{Look, Near, Root, Walk}
 use Rattle.order.specs.declared.run.ReadRun.{ReadRun}
 use Rattle.straight.specs.declared.hand.Hand.{Hand}
 use Rattle.straight.specs.declared.ordered_read.ReadStop.{ReadStop}
@@ -24,7 +31,7 @@ use Rattle.tables.specs.declared.view.SeatView.{SeatView}
 use Rattle.tables.specs.declared.view.SeatedPass.{SeatedPass}
 use Rattle.straight.specs.CallKinds.{Calls}
 use Rattle.straight.specs.Hands.{hand_calls, names}
-use Rattle.straight.specs.Hosts.{Host, HostedBegins, HostedEnds, HostedWaits, InnerCall}
+use Rattle.straight.specs.Hosts.{Host, HostedBegins, HostedEnds, HostedIsTold, HostedWaits, InnerCall}
 use Rattle.straight.specs.Leads.{Leads, steps_made}
 use Rattle.tables.specs.Seats.{StaysAtTable}
 use Rattle.straight.specs.StraightLlx.{llx_at}
@@ -42,6 +49,10 @@ Reader o means = Host o (inner_read means)
 abbrev pub at_root : {R : Type 0} → ReadRun R → ReadRun R
 at_root m = record m { at = Root }
 
+-- a run that searches a leaf
+abbrev pub searching : {R : Type 0} → ReadRun R → NearRun → Children → NodeNo → ReadRun R
+searching m near children fork = record m { at = Near near children fork }
+
 -- a run that asks again for the state of an SCX-record that was in the way of its look at a fork
 abbrev pub looking_again : {R : Type 0} → ReadRun R → Children → ℕ → NodeNo → Bool → ScxNo → ReadRun R
 looking_again m children level n marked scx = record m { at = Look children level (llx_at n (StateAgain marked scx)) }
@@ -58,6 +69,18 @@ module _ {M R A : Type 0} {o : Calls M} {means : ReadMeaning R A} (r : Reader o 
   -- its read has begun what comes next
   abbrev pub ReaderWaits : ReadRun R → ReadNext → Type 0
   ReaderWaits m next = HostedWaits r ps (placed m next) (next_step m next)
+
+  -- its read searches a leaf so, and looks at this fork if that does not have the pair
+  abbrev pub ReaderSearches : ReadRun R → NearRun → Children → NodeNo → Type 0
+  ReaderSearches m near children fork = HostedWaits r ps (searching m near children fork) (load LoadSettled (near_word near))
+
+  -- its walk has found f in the end, with these forks as the last where it has turned; its read goes
+  -- down again from the last to this side
+  pub record ReaderHasWalked (m : ReadRun R) (side : Side) (turns : LastTurns) (f : Found) : Type 0 where
+    pub last : WalkRun
+    pub told : ℕ
+    pub finds : (d : Call) (h : History) → WalkIsTold last d h told → HasFoundGoal last.goal d h f
+    pub so : HostedIsTold r ps (record m { at = Walk last side turns }) told
 
   -- its read asks again for that state
   abbrev pub ReaderLooksAgain : ReadRun R → Children → ℕ → NodeNo → Bool → ScxNo → Type 0
@@ -77,6 +100,10 @@ module _ {R A : Type 0} (means : ReadMeaning R A) where
   -- how many steps are left to it after the load of the root's head
   abbrev pub root_left : ReadRun R → ℕ → ℕ
   root_left m nodes = read_left means (at_root m) (nodes_by m.trie nodes)
+
+  -- behind its walk, where it goes down again from the last fork to this side
+  abbrev pub walked_left : ReadRun R → Side → LastTurns → ℕ → ℕ
+  walked_left m side turns nodes = near_most + suc (read_left means (placed m (LookNext (first_children side (turn_to side turns).0) 0 (turn_to side turns))) (nodes_by m.trie nodes))
 
   -- where it asks again for that state
   abbrev pub again_left : ReadRun R → Children → ℕ → NodeNo → Bool → ScxNo → ℕ → ℕ

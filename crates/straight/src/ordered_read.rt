@@ -1,15 +1,17 @@
 //! Ordered reads, of whatever machine makes one: the first try inline, as long as nothing is in its
 //! way. If something is, or has happened between, the machine of the read continues from there;
 //! until then its place is left as it was.
-ghost use Rattle.std.specs.Prelude.{◌≡◌, suc, Ok, Err};
+ghost use Rattle.std.specs.Prelude.{◌≡◌, ◌+◌, ◌≤◌, suc, Ok, Err, IfSome, IsNone};
 ghost use Rattle.template.specs.Balance.{nodes_by};
+ghost use Rattle.order.specs.LastTurns.{first_children, turn_to};
+ghost use Rattle.order.specs.Near.{near_left, near_most};
 ghost use Rattle.order.specs.Steps.{read_left};
 ghost use Rattle.order.specs.declared.load.ReadLoad.{ReadLoad};
 ghost use Rattle.order.specs.declared.read.ReadNext.{ReadNext};
 ghost use Rattle.prims.specs.Llx.Known.{load};
 ghost use Rattle.tables.specs.Seats.{StaysAtTable};
 ghost use Rattle.tables.specs.Traces.{shared_nodes};
-ghost use Rattle.straight.specs.StraightReads.{ReadEnds, ReadEndsFrom, ReadGoesOn, Reader, ReaderBegins, ReaderEnds, ReaderGoesOn, ReaderLooksAgain, ReaderRoots, StandsToRead, again_left, root_left};
+ghost use Rattle.straight.specs.StraightReads.{ReadEnds, ReadEndsFrom, ReadGoesOn, Reader, ReaderBegins, ReaderEnds, ReaderGoesOn, ReaderHasWalked, ReaderLooksAgain, ReaderRoots, ReaderSearches, ReaderWaits, StandsToRead, again_left, root_left, walked_left};
 ghost use Rattle.straight.specs.Hands.{IsAt, hand_calls, names};
 ghost use Rattle.straight.specs.Hosts.{Host, HostedEnds, HostedIsTold, HostedWaits, inner_machine};
 ghost use Rattle.straight.specs.Leads.{Leads, steps_made};
@@ -23,18 +25,19 @@ use crate::steps::complete;
 use crate::vlx::validate;
 use crate::walk;
 use arena::{
-    Access, Head, Kind, Machine, NodeNo, NodeWord, ScxNo, ScxWord, SettledPart, Shape, Slot, Step,
-    Turn, Word,
+    Access, Head, Kind, Machine, NodeNo, NodeWord, ScxNo, ScxWord, SettledPart, Shape, Side, Slot,
+    Step, Turn, Word,
 };
 use atomic_table::Seat;
 use order::{
-    Children, HeadLoad, HighLoad, KeyLoad, KnownLoad, LeafPlace, MoreLoad, PairLoad, Read, ReadAt,
-    ReadBegin, ReadLoad, ReadNext, ReadRun, Refused, ValueLoad, leaf_way,
+    Children, HeadLoad, HighLoad, KeyLoad, KnownLoad, LastTurns, LeafPlace, MoreLoad, NearNext,
+    NearRun, PairLoad, Read, ReadAt, ReadBegin, ReadLoad, ReadNext, ReadRun, Refused, ValueLoad,
+    leaf_way,
 };
 use prims::{LlxAt, LlxRun};
 use tables::table_shape::{Keeping, TableShape};
 use tables::view::SeatView;
-use template::{Goal, Tree};
+use template::{Found, Goal, Tree};
 
 /// Loads a settled word.
 #[inline(always)]
@@ -511,6 +514,107 @@ fn from_root<S: TableShape, M: CallMachine<S>, R: Read + Drop>(
     go_on::<S, M, R>(hand, seat, run, first)
 }
 
+/// Searches a leaf for the pair beside a key, and returns the answer if it has that.
+#[inline(always)]
+fn search<S: TableShape, M: CallMachine<S>, R: Read + Drop>(
+    hand: Hand<S>,
+    seat: &mut Seat<u8, SeatView>,
+    run: &ReadRun<R>,
+    near: NearRun,
+    children: Children,
+    fork: NodeNo,
+) -> Option<R::Answer>
+    requires table { IsAt S.mode S.lasts hand seat.old }
+    requires waits { (r : Reader (hand_calls S.Shape M.Machine M.left_dealt hand) R.means)
+        × ReaderSearches r seat.old.me.0.passes run.now near children fork }
+    ensures table { StaysAtTable seat.old seat.new }
+    ensures steps { steps_made seat.new ≤ steps_made seat.old + suc (near_left near.at) }
+    ensures found { IfSome result (λ answer.
+        (r : Reader (hand_calls S.Shape M.Machine M.left_dealt hand.entry) R.means)
+        → ReaderSearches r seat.old.me.0.passes run.now near children fork
+        → ReaderEnds r seat.new.me.0.passes run.now (Ok answer)) }
+    ensures nothing { IsNone result
+        → (r : Reader (hand_calls S.Shape M.Machine M.left_dealt hand.entry) R.means)
+        → ReaderSearches r seat.old.me.0.passes run.now near children fork
+        → ReaderWaits r seat.new.me.0.passes run.now (ReadNext.Look children 0 fork) }
+{
+    let mut now = near;
+    loop {
+        let value = read::<S, M, Tree, ReadRun<R>>(hand, seat, now.word());
+        match now.found(value) {
+            NearNext::Load(next) => now = next,
+            NearNext::Found(pair) => return Some(run.read.tell(pair)),
+            NearNext::Nothing => return None,
+        }
+    }
+}
+
+/// Searches the leaf where a walk has ended, if it may: in a trie alone. There is no code for that in
+/// a tree.
+#[inline(always)]
+fn in_leaf<S: TableShape, M: CallMachine<S>, R: Read + Drop, B: Keeping>(
+    hand: Hand<S>,
+    seat: &mut Seat<u8, SeatView>,
+    run: &ReadRun<R>,
+    found: Found,
+    side: Side,
+    turns: LastTurns,
+) -> Option<R::Answer>
+    requires table { IsAt S.mode S.lasts hand seat.old }
+    requires walked { (r : Reader (hand_calls S.Shape M.Machine M.left_dealt hand) R.means)
+        × ReaderHasWalked r seat.old.me.0.passes run.now side turns found }
+    ensures table { StaysAtTable seat.old seat.new }
+    ensures steps { steps_made seat.new ≤ steps_made seat.old + near_most }
+    ensures found { IfSome result (λ answer.
+        (r : Reader (hand_calls S.Shape M.Machine M.left_dealt hand.entry) R.means)
+        → ReaderHasWalked r seat.old.me.0.passes run.now side turns found
+        → ReaderEnds r seat.new.me.0.passes run.now (Ok answer)) }
+    ensures nothing { IsNone result
+        → (r : Reader (hand_calls S.Shape M.Machine M.left_dealt hand.entry) R.means)
+        → ReaderHasWalked r seat.old.me.0.passes run.now side turns found
+        → ReaderWaits r seat.new.me.0.passes run.now
+        (ReadNext.Look (first_children side (turn_to side turns).0) 0 (turn_to side turns)) }
+{
+    if !in_trie::<B>() {
+        return None;
+    }
+    let near = run.nearby(found, turns)?;
+    search::<S, M, R>(hand, seat, run, near, turns.children(side), turns.to(side))
+}
+
+/// Makes what is left of a try behind its walk: in a trie it may end in the leaf.
+#[inline(always)]
+fn behind_walk<S: TableShape, M: CallMachine<S>, R: Read + Drop, B: Keeping>(
+    hand: Hand<S>,
+    seat: &mut Seat<u8, SeatView>,
+    run: &mut ReadRun<R>,
+    found: Found,
+    side: Side,
+    turns: LastTurns,
+) -> Result<R::Answer, Refused>
+    requires table { IsAt S.mode S.lasts hand seat.old }
+    requires walked { (r : Reader (hand_calls S.Shape M.Machine M.left_dealt hand) R.means)
+        × ReaderHasWalked r seat.old.me.0.passes run.old side turns found }
+    ensures { Leads seat.old seat.new (walked_left R.means run.old side turns
+        (shared_nodes (names hand.entry)))
+        (λ (r : Reader (hand_calls S.Shape M.Machine M.left_dealt hand.entry) R.means) ps.
+        ReaderHasWalked r ps run.old side turns found)
+        (λ r ps. ReaderEnds r ps run.new result) }
+{
+    match in_leaf::<S, M, R, B>(hand, seat, run, found, side, turns) {
+        Some(answer) => Ok(answer),
+        None => {
+            let (children, level, node) = (turns.children(side), 0, turns.to(side));
+            let first = ReadNext::Look {
+                children,
+                level,
+                node,
+            };
+            go_on::<S, M, R>(hand, seat, run, first)
+        }
+    }
+}
+
 /// Makes an ordered read: its first try inline. A function of its own, as that of an update.
 #[inline(never)]
 pub fn call<S: TableShape, M: CallMachine<S>, R: Read + Drop, B: Keeping>(
@@ -538,16 +642,8 @@ pub fn call<S: TableShape, M: CallMachine<S>, R: Read + Drop, B: Keeping>(
     match run.start() {
         ReadBegin::Walk { key, side } => {
             let way = leaf_way(in_trie::<B>());
-            let (_, turns) = walk::to_goal::<S, M>(hand, seat, way, Goal::Key(key));
-            let children = turns.children(side);
-            let node = turns.to(side);
-            let level = 0;
-            let first = ReadNext::Look {
-                children,
-                level,
-                node,
-            };
-            go_on::<S, M, R>(hand, seat, run, first)
+            let (found, turns) = walk::to_goal::<S, M>(hand, seat, way, Goal::Key(key));
+            behind_walk::<S, M, R, B>(hand, seat, run, found, side, turns)
         }
         ReadBegin::Root => from_root::<S, M, R>(hand, seat, run),
         ReadBegin::Answer(answer) => Ok(answer),

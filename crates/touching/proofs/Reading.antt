@@ -6,16 +6,19 @@ use Rattle.ordered_map.specs.TreeShape.{TreeAllows}
 use Rattle.template.specs.Walk.Places.{IsPastRoot}
 use Rattle.template.specs.declared.walk.WalkAt.{WalkAt}
 use Rattle.template.specs.declared.walk.WalkAt.TheVariants as walks
+use Rattle.template.proofs.Lemmas.{own_since}
 use Rattle.order.specs.Known.{ReadGoes, ReadWaitsAt, ReadWaits, StandsInTry, WalksInTry}
 use Rattle.order.specs.Loads.{load_node}
 use Rattle.order.specs.Meaning.{ReadMeaning}
+use Rattle.order.specs.Near.{NearKnows}
 use Rattle.order.specs.Next.{MayLoad}
 use Rattle.order.specs.Reads.{HasStood}
 use Rattle.order.specs.declared.last_turns.LastTurns.{LastTurns}
 use Rattle.order.specs.declared.load.ReadLoad.{ReadLoad}
 use Rattle.order.specs.declared.load.ReadLoad.TheVariants as loads
+use Rattle.order.specs.declared.near.NearRun.{NearRun}
 use Rattle.order.specs.declared.run.ReadAt.{ReadAt}
-use Rattle.order.specs.declared.run.ReadAt.TheVariants.{Start, Walk, Root, Load, Look, Validate}
+use Rattle.order.specs.declared.run.ReadAt.TheVariants.{Start, Walk, Near, Root, Load, Look, Validate}
 use Rattle.order.specs.declared.run.ReadRun.{ReadRun}
 use Rattle.touching.specs.Touches.{WereSo}
 use Rattle.touching.proofs.Finding.{Finds, found_so}
@@ -30,6 +33,12 @@ use Rattle.touching.proofs.Changing.{vlx_in_call}
 -- what a read comes to was there
 stood_there : (c : Call) (h : History) (n : ℕ) → HasStood c h n → WasThere c h n
 stood_there c h n x = let s = x.stood in record { moment = s.moment; within = s.within; since = x.in_call; was = record { tree = s.tree; is_tree = s.is_tree; has = s.has } }
+
+-- so was the leaf that it searches
+near_there : (c : Call) (h : History) (near : NearRun) → NearKnows near c h → WasThere c h near.node.0
+near_there c h near x =
+    let s = x.stood.0 in
+    record { moment = s.moment; within = ends_trans h x.moment s.moment x.within s.within; since = ends_trans s.moment x.first c.start x.stood.1 (own_since c x.first x.own); was = record { tree = s.tree; is_tree = s.is_tree; has = s.has } }
 
 module _ {R A : Type 0} (means : ReadMeaning R A) (m : ReadRun R) (c : Call) (h begin : History) where
   abbrev try : Call
@@ -75,6 +84,7 @@ module _ {R A : Type 0} (means : ReadMeaning R A) (m : ReadRun R) (c : Call) (h 
   read_at : (at : ReadAt) (s : Step) → ReadGoes means m try h → StandsInTry means m c h begin at → ReadWaitsAt means m try h s at → Finds InTree c h s.word
   read_at Start s g i k = absurd k
   read_at (Walk walk side turns) s g i k = walk_in_call InTree in_tree_kind c begin h k.1.run walk (walk_now turns walk.at k.1.since i) s (λ past. walk_since turns walk.at past i) k.1
+  read_at (Near near children fork) s g i k = rw k.1 (found_so (been_wider h begin c.start _ i.begins.since (near_there try h near k.0.search.1)))
   read_at Root s g i k = rw k.1 (found_so (root_so InTree in_tree_kind c h g.reads.run i.0.since))
   read_at (Load of) s g i k = rw k.1 (found_so (stood_node i.begins.since (load_node of).0 (loaded of k.0)))
   read_at (Look children low llx) s g i k =

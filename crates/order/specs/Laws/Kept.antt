@@ -7,7 +7,7 @@ use Rattle.arena.proofs.Lemmas.{ends_self, ends_trans, taken_more}
 use Rattle.prims.specs.Laws.Begun.{TakesOnly}
 use Rattle.prims.specs.Laws.Idle.{IsIdle, quiet_at_start, quiet_more, idle_if_finished}
 use Rattle.prims.specs.Laws.InTheWay.{been_more}
-use Rattle.template.specs.Common.{load, AreFinished, Snap, Passed, IsMapRun, TreeAllows, level, begins_try}
+use Rattle.template.specs.Common.{load, AreFinished, Snap, Passed, WasInTree, IsMapRun, TreeAllows, level, begins_try}
 use Rattle.prims.proofs.Lemmas.{over_more}
 use Rattle.ordered_map.proofs.Lemmas.{SameSettled}
 use Rattle.ordered_map.specs.Paths.{StoodSince}
@@ -15,9 +15,13 @@ use Rattle.ordered_map.proofs.MapLemmas.{path_not_final, root_head, run_since, s
 use Rattle.template.proofs.Lemmas.{BeginsNoTry, newest_more, newest_now, next_more, other_node_begins_none}
 use Rattle.order.specs.Loads.{load_word}
 use Rattle.order.specs.Meaning.{ReadMeaning}
+use Rattle.order.specs.Near.{NearKnows, near_part}
 use Rattle.order.specs.Next.{MayLoad}
 use Rattle.order.specs.Reads.{AreSnapped, Reads, Whenever, HasStood}
 use Rattle.order.specs.Tries.{BeginsTry, IsInTry}
+use Rattle.order.specs.declared.near.NearAt.{NearAt}
+use Rattle.order.specs.declared.near.NearAt.TheVariants as nears
+use Rattle.order.specs.declared.near.NearRun.{NearRun}
 use Rattle.order.specs.declared.load.ReadLoad.{ReadLoad}
 use Rattle.order.specs.declared.load.ReadLoad.TheVariants as loads
 
@@ -85,6 +89,16 @@ module _ (c : Call) (h : History) (r : Row) where
     pub settled_more : (n : ℕ) → IsMapRun c.layout h → HasStood c h n → SameSettled (value h) (value (r ⊳ h)) n
     settled_more n g x = stood_settled c.layout (r ⊳ h) h n (g.0, run) (inr (ends_self h)) x.stood
 
+-- Its search of a leaf
+
+-- what that knows is of a moment that is past
+pub near_more : (c : Call) (h : History) (r : Row) (near : NearRun) → NearKnows near c h → NearKnows near c (r ⊳ h)
+near_more c h r near x = record { moment = x.moment; within = inr x.within; first = x.first; own = x.own; since = x.since; stood = x.stood; small = x.small; stands = x.stands }
+
+-- its leaf has been in the tree
+pub near_stood : (c : Call) (h : History) (near : NearRun) → NearKnows near c h → WasInTree h near.node.0
+near_stood c h near x = let s = x.stood.0 in record { moment = s.moment; within = ends_trans h x.moment s.moment x.within s.within; tree = s.tree; is_tree = s.is_tree; has = s.has }
+
 -- Its tries
 
 module _ (c : Call) (h : History) (r : Row) (limit left : ℕ) (idle : IsIdle c.layout c.pass (r ⊳ h)) where
@@ -109,6 +123,12 @@ head_begins_none c h s above n run deep e = other_node_begins_none s n (Settled 
 -- nor does a load of another word
 word_begins_none : (s : Step) (n : ℕ) (part : NodeWord) → s ≡ load LoadSettled (node n part) → same_node_word part (Settled Head) ≡ false → BeginsNoTry s
 word_begins_none s n part e other = rw (e, other) (and-false (n == 0))
+
+-- nor does one of a search in a leaf
+pub near_begins_none : (s : Step) (n : ℕ) (at : NearAt) → s ≡ load LoadSettled (node n (Settled (near_part at))) → BeginsNoTry s
+near_begins_none s n (nears.Key slot last) e = word_begins_none s n (Settled (KeyWord slot)) e refl
+near_begins_none s n (nears.Value slot key) e = word_begins_none s n (Settled (ValueWord slot)) e refl
+near_begins_none s n (nears.High slot key low) e = word_begins_none s n (Settled (HighWord slot)) e refl
 
 -- so no load of an ordered read but that of the root's head does
 pub load_begins_none : {R A : Type 0} (means : ReadMeaning R A) (r : R) (snaps : List Snap) (c : Call) (h : History) (s : Step) (of : ReadLoad) → IsMapRun c.layout h → MayLoad means r snaps c h of → s ≡ load LoadSettled (load_word of) → BeginsNoTry s

@@ -7,7 +7,7 @@ use Rattle.arena.specs.declared.word.Side.TheVariants as sides
 use Rattle.arena.proofs.Lemmas.{ends_self}
 use Rattle.prims.specs.Laws.Idle.{IsIdle, idle_if_finished}
 use Rattle.prims.specs.Laws.Begun.{TakesOnly, takes_by_others, takes_by_step}
-use Rattle.template.specs.Common.{load, IsMapRun, TreeAllows, level, begins_try, IsOwnMoment, WalkKnows, WalkWaits, IsPastRoot}
+use Rattle.template.specs.Common.{load, WasInTree, IsMapRun, TreeAllows, level, begins_try, IsOwnMoment, WalkKnows, WalkWaits, IsPastRoot}
 use Rattle.prims.specs.Llx.Laws.{llx_keeps, llx_lawful, llx_made, load_lawful, load_told}
 use Rattle.prims.specs.Vlx.Laws.{vlx_keeps, vlx_lawful, vlx_made}
 use Rattle.prims.proofs.Lemmas.{llx_fills_not, vlx_fills_not}
@@ -24,11 +24,12 @@ use Rattle.template.specs.Trails.{WasOn}
 use Rattle.template.specs.declared.walk.Way.TheVariants.{InTree, InTrie, Within}
 use Rattle.template.proofs.Lemmas.{BeginsNoTry, llx_begins_none, others_begin_none, own_begins, own_begins_none, vlx_begins_none, walk_begins_none, walk_fills_not, stood_inside}
 use Rattle.order.specs.Found.{AreThere, IsAtLowFork, Looks, StandsIn, TakesPair, more_at}
-use Rattle.order.specs.Known.{AreLastTurns, BeginsHere, IsLastTurn, ReadGoes, ReadIsReady, ReadIsToldAt, ReadWaits, ReadWaitsAt, RunStands, StandsInTry, Validates, Walks, WalksInTry}
+use Rattle.order.specs.Known.{AreLastTurns, BeginsHere, IsLastTurn, ReadGoes, ReadIsReady, ReadIsToldAt, ReadWaits, ReadWaitsAt, RunStands, SearchesLeaf, StandsInTry, Validates, Walks, WalksInTry}
 use Rattle.order.specs.Laws.Depth.{depth_by, fork_depth, head_fits}
-use Rattle.order.specs.Laws.Kept.{begins_more, in_try_more, in_try_now, load_begins_none, reads_anew, root_there, stood_more, whenever_more, reads_more, settled_more}
+use Rattle.order.specs.Laws.Kept.{begins_more, in_try_more, in_try_now, load_begins_none, near_begins_none, near_more, near_stood, reads_anew, root_there, stood_more, whenever_more, reads_more, settled_more}
 use Rattle.order.specs.Loads.{load_node, load_part, load_value, load_word}
 use Rattle.order.specs.Meaning.{ReadMeaning}
+use Rattle.order.specs.Near.{near_part, near_word}
 use Rattle.order.specs.Next.{MayLoad}
 use Rattle.order.specs.Paths.{HeadFits, LoadFits}
 use Rattle.order.specs.Reads.{HasStood}
@@ -36,11 +37,12 @@ use Rattle.order.specs.Steps.{ReadFits, ReadFitsAt}
 use Rattle.order.specs.Tries.{IsInTry}
 use Rattle.order.specs.LastTurns.{no_turns, turn_to}
 use Rattle.order.specs.declared.load.LeafPlace.{LeafPlace}
+use Rattle.order.specs.declared.near.NearRun.{NearRun}
 use Rattle.order.specs.declared.load.ReadLoad.{ReadLoad}
 use Rattle.order.specs.declared.load.ReadLoad.TheVariants as loads
 use Rattle.order.specs.declared.read.Children.{Children}
 use Rattle.order.specs.declared.run.ReadAt.{ReadAt}
-use Rattle.order.specs.declared.run.ReadAt.TheVariants.{Start, Walk, Root, Load, Look, Validate}
+use Rattle.order.specs.declared.run.ReadAt.TheVariants.{Start, Walk, Near, Root, Load, Look, Validate}
 use Rattle.order.specs.declared.run.ReadRun.{ReadRun}
 use Rattle.order.specs.declared.last_turns.LastTurns.{LastTurns}
 
@@ -143,6 +145,9 @@ module _ {R A : Type 0} (means : ReadMeaning R A) (m : ReadRun R) where
     load_more (loads.Value p key) x = pair_more p key x
     load_more (loads.High p key low) x = (pair_more p key x.0, settled_more c h r run p.node.0 g x.0.stands.stood (Settled (ValueWord p.slot)) tt ∙ x.1)
 
+    searches_more : (near : NearRun) (children : Children) (fork : ℕ) → SearchesLeaf means m.read m.snaps.items c h near children fork → SearchesLeaf means m.read m.snaps.items c (r ⊳ h) near children fork
+    searches_more near children fork x = record { looks = looks_more children 0 fork x.looks; search = (x.search.0, near_more c h r near x.search.1) }
+
     validates_more : (begin : History) → Validates means m.read m.snaps.items c h begin → Validates means m.read m.snaps.items c (r ⊳ h) begin
     validates_more begin x = record { asks = x.asks; own = x.own; within = inr x.within; reads = x.reads; right = x.right }
 
@@ -154,6 +159,7 @@ module _ {R A : Type 0} (means : ReadMeaning R A) (m : ReadRun R) where
     kept_at : (s : Step) (at : ReadAt) → r.pass.0 ≢ c.pass → ReadWaitsAt means m c h s at → ReadWaitsAt means m c (r ⊳ h) s at
     kept_at s Start other w = w
     kept_at s (Walk walk side turns) other w = (walks_more walk side turns w.0, walk_keeps walk c h s r run other w.1)
+    kept_at s (Near near children fork) other w = (searches_more near children fork.0 w.0, w.1)
     kept_at s Root other w = (stands_more 0 w.0, w.1)
     kept_at s (Load of) other w = (load_more of w.0, w.1)
     kept_at s (Look children low llx) other w = (looks_more children low llx.node.0 w.0, (w.1.0, w.1.1, llx_keeps TreeAllows llx (begun_at c w.1.0) h s r run other w.1.2))
@@ -187,8 +193,8 @@ module _ {R A : Type 0} (means : ReadMeaning R A) (m : ReadRun R) where
   -- The step that it waits for
 
   -- a load of a settled word of a node that has been in the tree continues the run
-  load_on : (c : Call) (h : History) (s : Step) (n : ℕ) (part : SettledPart) → IsMapRun c.layout h → HasStood c h n → s ≡ load LoadSettled (node n (Settled part)) → IsRun TreeAllows c.layout (row_of c s h ⊳ h)
-  load_on c h s n part g x asked = load_lawful TreeAllows c h LoadSettled (node n (Settled part)) s g.1 asked record { word = tt; same = refl } (λ q. cc) (stood_inside c.layout h n g x.stood)
+  load_on : (c : Call) (h : History) (s : Step) (n : ℕ) (part : SettledPart) → IsMapRun c.layout h → WasInTree h n → s ≡ load LoadSettled (node n (Settled part)) → IsRun TreeAllows c.layout (row_of c s h ⊳ h)
+  load_on c h s n part g x asked = load_lawful TreeAllows c h LoadSettled (node n (Settled part)) s g.1 asked record { word = tt; same = refl } (λ q. cc) (stood_inside c.layout h n g x)
 
   load_stood : (c : Call) (h : History) (of : ReadLoad) → MayLoad means m.read m.snaps.items c h of → HasStood c h (load_node of).0
   load_stood c h (loads.Head above n) x = x.0.stood
@@ -201,8 +207,9 @@ module _ {R A : Type 0} (means : ReadMeaning R A) (m : ReadRun R) where
   lawful_at : (c : Call) (h : History) (s : Step) (at : ReadAt) → IsMapRun c.layout h → ReadWaitsAt means m c h s at → IsRun TreeAllows c.layout (row_of c s h ⊳ h)
   lawful_at c h s Start g w = absurd w
   lawful_at c h s (Walk walk side turns) g w = walk_lawful walk c h s g.1 w.1
-  lawful_at c h s Root g w = load_on c h s 0 HeadWord g w.0.stood w.1
-  lawful_at c h s (Load of) g w = load_on c h s (load_node of).0 (load_part of) g (load_stood c h of w.0) w.1
+  lawful_at c h s (Near near children fork) g w = load_on c h s near.node.0 (near_part near.at) g (near_stood c h near w.0.search.1) w.1
+  lawful_at c h s Root g w = load_on c h s 0 HeadWord g w.0.stood.stood w.1
+  lawful_at c h s (Load of) g w = load_on c h s (load_node of).0 (load_part of) g (load_stood c h of w.0).stood w.1
   lawful_at c h s (Look children low llx) g w = llx_lawful TreeAllows llx (begun_at c w.1.0) h s g.1 w.1.2
   lawful_at c h s (Validate asked) g w = vlx_lawful TreeAllows m.snaps.items asked (begun_at c w.0) h s g.1 w.2
 
@@ -218,6 +225,7 @@ module _ {R A : Type 0} (means : ReadMeaning R A) (m : ReadRun R) where
   fills_not_at : (c : Call) (h : History) (s : Step) (at : ReadAt) → ReadWaitsAt means m c h s at → s.kind ≢ Fill
   fills_not_at c h s Start w = absurd w
   fills_not_at c h s (Walk walk side turns) w = walk_fills_not walk c h s w.1
+  fills_not_at c h s (Near near children fork) w = load_fills_not s (near_word near) w.1
   fills_not_at c h s Root w = load_fills_not s (node 0 (Settled HeadWord)) w.1
   fills_not_at c h s (Load of) w = load_fills_not s (load_word of) w.1
   fills_not_at c h s (Look children low llx) w = llx_fills_not TreeAllows llx (begun_at c w.1.0) h s w.1.2
@@ -240,6 +248,7 @@ module _ {R A : Type 0} (means : ReadMeaning R A) (m : ReadRun R) where
   asks_at : (c : Call) (h : History) (s : Step) (at : ReadAt) → ReadWaitsAt means m c h s at → means.asks (means.call m.read)
   asks_at c h s Start w = absurd w
   asks_at c h s (Walk walk side turns) w = w.0.goes_to.asks
+  asks_at c h s (Near near children fork) w = w.0.looks.asks
   asks_at c h s Root w = w.0.asks
   asks_at c h s (Load of) w = load_asks c h of w.0
   asks_at c h s (Look children low llx) w = w.0.asks
@@ -258,6 +267,7 @@ module _ {R A : Type 0} (means : ReadMeaning R A) (m : ReadRun R) where
     made_at : (at : ReadAt) → ReadWaitsAt means m c h s at → ReadIsToldAt means m c (row_of c s h ⊳ h) v at
     made_at Start w = w
     made_at (Walk walk side turns) w = (walks_more c h r g run walk side turns w.0, walk_made walk c h s v run t w.1)
+    made_at (Near near children fork) w = (searches_more c h r g run near children fork.0 w.0, load_told c h LoadSettled (near_word near) s v w.1 t)
     made_at Root w = (stands_more c h r g run 0 w.0, load_told c h LoadSettled (node 0 (Settled HeadWord)) s v w.1 t)
     made_at (Load of) w = (load_more c h r g run of w.0, load_told c h LoadSettled (load_word of) s v w.1 t)
     made_at (Look children low llx) w = (looks_more c h r g run children low llx.node.0 w.0, (w.1.0, w.1.1, llx_made TreeAllows llx (begun_at c w.1.0) h s v run t w.1.2))
@@ -319,6 +329,7 @@ module _ {R A : Type 0} (means : ReadMeaning R A) (m : ReadRun R) where
     ready_at : (begin : History) (at : ReadAt) → StandsInTry means m c h begin at → ReadGoes means m (begun_at c begin) h → ReadWaitsAt means m (begun_at c begin) h s at → ReadyAt c made v at
     ready_at begin Start try goes w = absurd w
     ready_at begin (Walk walk side turns) try goes w = walk_told_in begin walk side turns walk.at refl try goes w
+    ready_at begin (Near near children fork) try goes w = stays_in_try begin goes (Near near children fork) try (near_begins_none s near.node.0 near.at w.1) w
     ready_at begin Root try goes w = root_begins begin goes try w.1 w
     ready_at begin (Load of) try goes w = stays_in_try begin goes (Load of) try (load_begins_none means m.read m.snaps.items (begun_at c begin) h s of goes.reads.run w.0 w.1) w
     ready_at begin (Look children low llx) try goes w = stays_in_try begin goes (Look children low llx) try (llx_begins_none TreeAllows llx (begun_at c w.1.0) h s w.1.2) w
@@ -343,6 +354,7 @@ module _ {R A : Type 0} (means : ReadMeaning R A) (m : ReadRun R) where
   fits_at : (c : Call) (h : History) (v nodes : ℕ) (at : ReadAt) → IsMapRun c.layout h → c.layout.mode ≡ map_mode m.trie → ReadIsToldAt means m c h v at → length (taken_nodes h) ≤ nodes → ReadFitsAt means m (Some v) (nodes_by m.trie nodes) at
   fits_at c h v nodes Start g mode x few = absurd x
   fits_at c h v nodes (Walk walk side turns) g mode x few = (x.0.way, subst (WalkFitsAt walk.at v) (ap (λ way. room way nodes) x.0.way ∙ room_by m.trie nodes) (walk_told walk c h (Some v) nodes g.1 x.1 few))
+  fits_at c h v nodes (Near near children fork) g mode x few = tt
   fits_at c h v nodes Root g mode x few = head_fits c.layout h 0 _ (head_of v) g x.0.stood.stood (ap head_of x.1) (depth_by c.layout m.trie _ nodes mode few)
   fits_at c h v nodes (Load of) g mode x few = load_fits c h v _ of g x.0 x.1 (depth_by c.layout m.trie _ nodes mode few)
   fits_at c h v nodes (Look children low llx) g mode x few =

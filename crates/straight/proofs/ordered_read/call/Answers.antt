@@ -1,5 +1,7 @@
 use Rattle.std.proofs.Common.{◌≡◌, ◌∙◌, ap, ◌+◌, ◌≤◌, suc, arith, refl, sym, subst}
 use Rattle.template.specs.Balance.{leaf_way, nodes_by}
+use Rattle.order.specs.LastTurns.{first_children, turn_to}
+use Rattle.order.specs.Near.{near_most}
 use Rattle.order.specs.Places.{placed}
 use Rattle.order.specs.Steps.{read_left}
 use Rattle.order.specs.declared.read.ReadNext.TheVariants.{Look as LookNext}
@@ -7,7 +9,7 @@ use Rattle.straight.specs.Leads.{steps_made}
 use Rattle.straight.specs.StraightReads.{at_root}
 use Rattle.tables.specs.Traces.{shared_nodes}
 use Rattle.straight.specs.Hands.{names}
-use Rattle.straight.proofs.StraightReads.{ends_at_once, root_in_try, roots, walk_in_try, walk_looks, walker, walks}
+use Rattle.straight.proofs.StraightReads.{ends_at_once, root_in_try, roots, walk_ends, walk_in_try, walker, walks}
 use Rattle.straight.proofs.StraightWalk.{leaf_steps}
 use Rattle.straight.proofs.ordered_read.call.Given.{Over}
 use Rattle.straight.proofs.ordered_read.call.Goals.{After-leaf_way-way}
@@ -20,16 +22,16 @@ is_way g c = c.leaf_way-way.ensures ∙ ap leaf_way (c.in_trie.ensures ∙ sym (
 pub to_goal-requires-clause-waits : goal.to_goal-requires-clause-waits
 to_goal-requires-clause-waits g c = let b = c.requires.begins in (walker b.0 c.start.new.self c.in-Walk.key c.in-Walk.side c.in-Walk.ensures.begins, rw (is_way g (goal.at.to_goal-requires-clause-waits g c).After-leaf_way-way) (walks b.0 c.start.new.self c.in-Walk.key c.in-Walk.side c.in-Walk.ensures.begins _ c.args.run.now c.start.ensures.same c.start.ensures.tries c.start.ensures.empty b.1))
 
-pub go_on-requires-clause-waits : goal.go_on-requires-clause-waits
-go_on-requires-clause-waits g c = let b = c.requires.begins in (b.0, rw (c.children-children.ensures, c.to-node.ensures) (walk_looks b.0 c.start.new.self c.in-Walk.key c.in-Walk.side c.in-Walk.ensures.begins _ c.to_goal.result.0 c.to_goal.result.1 (rw (is_way g (goal.at.go_on-requires-clause-waits g c).After-leaf_way-way) at (c.to_goal.ensures.finds (walker b.0 c.start.new.self c.in-Walk.key c.in-Walk.side c.in-Walk.ensures.begins) (rw (is_way g (goal.at.go_on-requires-clause-waits g c).After-leaf_way-way) (walks b.0 c.start.new.self c.in-Walk.key c.in-Walk.side c.in-Walk.ensures.begins _ c.args.run.now c.start.ensures.same c.start.ensures.tries c.start.ensures.empty b.1))))))
+pub behind_walk-requires-clause-walked : goal.behind_walk-requires-clause-walked
+behind_walk-requires-clause-walked g c = let b = c.requires.begins in (b.0, walk_ends b.0 c.start.new.self c.in-Walk.key c.in-Walk.side c.in-Walk.ensures.begins _ c.to_goal.result.0 c.to_goal.result.1 (rw (is_way g (goal.at.behind_walk-requires-clause-walked g c).After-leaf_way-way) at (c.to_goal.ensures.finds (walker b.0 c.start.new.self c.in-Walk.key c.in-Walk.side c.in-Walk.ensures.begins) (rw (is_way g (goal.at.behind_walk-requires-clause-walked g c).After-leaf_way-way) (walks b.0 c.start.new.self c.in-Walk.key c.in-Walk.side c.in-Walk.ensures.begins _ c.args.run.now c.start.ensures.same c.start.ensures.tries c.start.ensures.empty b.1)))))
 
 pub returns-in-Walk-clause-leads : goal.returns-in-Walk-clause-leads
 returns-in-Walk-clause-leads g c = record {
-  table = (c.go_on.ensures.table.0 ∙ c.to_goal.ensures.table.0, c.go_on.ensures.table.1 ∙ c.to_goal.ensures.table.1, c.go_on.ensures.table.2 ∙ c.to_goal.ensures.table.2);
-  to = λ r x. c.go_on.ensures.to r (rw (c.children-children.ensures, c.to-node.ensures) (walk_looks r c.start.new.self c.in-Walk.key c.in-Walk.side c.in-Walk.ensures.begins _ c.to_goal.result.0 c.to_goal.result.1 (rw (is_way g (goal.at.returns-in-Walk-clause-leads g c).After-leaf_way-way) at (c.to_goal.ensures.finds (walker r c.start.new.self c.in-Walk.key c.in-Walk.side c.in-Walk.ensures.begins) (rw (is_way g (goal.at.returns-in-Walk-clause-leads g c).After-leaf_way-way) (walks r c.start.new.self c.in-Walk.key c.in-Walk.side c.in-Walk.ensures.begins _ c.args.run.now c.start.ensures.same c.start.ensures.tries c.start.ensures.empty x))))));
-  steps = (let b = c.requires.begins in walk_in_try g.R.Read.means c.args.run.now c.start.new.self c.start.ensures.same c.start.ensures.tries c.start.ensures.empty (b.0.tells c.args.run.now _ _ b.1.so.0).1 _ _ _ c.children-children.result c.to-node.result c.in-Walk.key _ c.in-Walk.side (c.in-Walk.ensures.nearer _)
+  table = (c.behind_walk.ensures.table.0 ∙ c.to_goal.ensures.table.0, c.behind_walk.ensures.table.1 ∙ c.to_goal.ensures.table.1, c.behind_walk.ensures.table.2 ∙ c.to_goal.ensures.table.2);
+  to = λ r x. c.behind_walk.ensures.to r (walk_ends r c.start.new.self c.in-Walk.key c.in-Walk.side c.in-Walk.ensures.begins _ c.to_goal.result.0 c.to_goal.result.1 (rw (is_way g (goal.at.returns-in-Walk-clause-leads g c).After-leaf_way-way) at (c.to_goal.ensures.finds (walker r c.start.new.self c.in-Walk.key c.in-Walk.side c.in-Walk.ensures.begins) (rw (is_way g (goal.at.returns-in-Walk-clause-leads g c).After-leaf_way-way) (walks r c.start.new.self c.in-Walk.key c.in-Walk.side c.in-Walk.ensures.begins _ c.args.run.now c.start.ensures.same c.start.ensures.tries c.start.ensures.empty x)))));
+  steps = (let b = c.requires.begins in walk_in_try g.R.Read.means c.args.run.now c.start.new.self c.start.ensures.same c.start.ensures.tries c.start.ensures.empty (b.0.tells c.args.run.now _ _ b.1.so.0).1 _ _ _ (first_children c.in-Walk.side (turn_to c.in-Walk.side c.to_goal.result.1).0) (turn_to c.in-Walk.side c.to_goal.result.1) c.in-Walk.key _ c.in-Walk.side (c.in-Walk.ensures.nearer _)
       (leaf_steps c.args.run.now.trie _ _ _ (shared_nodes (names c.args.hand)) (is_way g (goal.at.returns-in-Walk-clause-leads g c).After-leaf_way-way ∙ ap leaf_way c.start.ensures.same.4) c.to_goal.ensures.steps)
-      (subst (λ t. steps_made c.go_on.new.seat ≤ steps_made c.to_goal.new.seat + suc (read_left g.R.Read.means (placed c.start.new.self (LookNext c.children-children.result 0 c.to-node.result)) (nodes_by t (shared_nodes (names c.args.hand))))) c.start.ensures.same.4 c.go_on.ensures.steps));
+      (subst (λ t. steps_made c.behind_walk.new.seat ≤ steps_made c.to_goal.new.seat + (near_most + suc (read_left g.R.Read.means (placed c.start.new.self (LookNext (first_children c.in-Walk.side (turn_to c.in-Walk.side c.to_goal.result.1).0) 0 (turn_to c.in-Walk.side c.to_goal.result.1))) (nodes_by t (shared_nodes (names c.args.hand)))))) c.start.ensures.same.4 c.behind_walk.ensures.steps));
 }
 
 pub returns-in-Walk-clause-nothing : goal.returns-in-Walk-clause-nothing

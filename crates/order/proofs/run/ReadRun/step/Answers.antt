@@ -3,7 +3,7 @@ use Rattle.histories.specs.Common.{head_of, begun_at}
 use Rattle.template.specs.Balance.{nodes_by}
 use Rattle.order.proofs.Blaming.{keeps_wider, try_as}
 use Rattle.order.proofs.Nearer.{below, from_root}
-use Rattle.order.proofs.Turns.{at_start, at_walk, at_root, at_look, at_load, at_validate, fits_at, goes_read, goes_taken, left_as, left_at, reading}
+use Rattle.order.proofs.Turns.{at_start, at_walk, at_near, at_root, at_look, at_load, at_validate, fits_at, goes_read, goes_taken, left_as, left_at, reading}
 use Rattle.order.proofs.run.ReadRun.step.Goals as goal
 
 pub returns-in-Start-clause-turn : goal.returns-in-Start-clause-turn
@@ -83,3 +83,11 @@ pub returns-in-Load-clause-nearer : goal.returns-in-Load-clause-nearer
 returns-in-Load-clause-nearer g c nodes fits =
     let f = fits_at g.R.Read.means c.args.self.now c.args.got (nodes_by c.args.self.now.trie nodes) _ c.in-Load.is fits in
     left_at g.R.Read.means c.args.self.now (nodes_by c.args.self.now.trie nodes) c.proceed.new.self c.proceed.result _ c.in-Load.is (left_as g.R.Read.means c.args.self.now c.loaded-next.new.self c.proceed.new.self (nodes_by c.args.self.now.trie nodes) _ c.proceed.result c.loaded-next.ensures.tries c.loaded-next.ensures.same.0 (c.proceed.ensures.nearer (nodes_by c.args.self.now.trie nodes) _ (c.loaded-next.ensures.nearer (nodes_by c.args.self.now.trie nodes) (rw c.unwrap_or-value.ensures f))))
+
+pub returns-in-Near-clause-turn : goal.returns-in-Near-clause-turn
+returns-in-Near-clause-turn g c d h r =
+    let t = at_near g.R.Read.means c.args.self.now d h c.args.got c.in-Near.near c.in-Near.children c.in-Near.fork c.in-Near.is r in
+    c.near_on.ensures.turn d t.0 h t.1 t.2 t.4.0 (t.4.1 ∙ sym c.unwrap_or-value.ensures)
+
+pub returns-in-Near-clause-nearer : goal.returns-in-Near-clause-nearer
+returns-in-Near-clause-nearer g c nodes fits = left_at g.R.Read.means c.args.self.now (nodes_by c.args.self.now.trie nodes) c.near_on.new.self c.near_on.result _ c.in-Near.is (c.near_on.ensures.nearer (nodes_by c.args.self.now.trie nodes))

@@ -1,17 +1,15 @@
-use Rattle.std.proofs.Common.{◌∙◌, ap, arith}
+use Rattle.std.proofs.Common.{◌∙◌, ap}
 use Rattle.arena.specs.Machines.{begun_at}
 use Rattle.template.proofs.Lemmas.{walk_past_root}
-use Rattle.order.proofs.Nearer.{less_walk}
+use Rattle.order.proofs.Nearer.{below, less_walk, past_walk}
 use Rattle.template.specs.Balance.{nodes_by}
 use Rattle.template.specs.Common.{path_key}
 use Rattle.order.proofs.Turning.{turned_so}
-use Rattle.order.proofs.Turns.{walk_less, found_looks, stands_there, stands_nearer, walk_waits}
-use Rattle.order.specs.LastTurns.{first_children, turn_to}
-use Rattle.order.specs.declared.read.ReadNext.TheVariants.{Look}
+use Rattle.order.proofs.Turns.{walk_less, walk_finds, walk_waits}
 use Rattle.order.proofs.run.ReadRun.walk_on.Goals as goal
 
 pub returns-in-Ask-clause-nearer : goal.returns-in-Ask-clause-nearer
-returns-in-Ask-clause-nearer g c nodes way fits = less_walk _ _ _ _ _ _ (walk_less c.args.self.now.trie nodes c.args.walk c.next.new.self c.args.got way c.next.ensures.same.1 (λ x. rw c.in-Ask.is at c.next.ensures.nearer nodes x) fits)
+returns-in-Ask-clause-nearer g c nodes way fits = less_walk _ _ _ _ _ _ _ (walk_less c.args.self.now.trie nodes c.args.walk c.next.new.self c.args.got way c.next.ensures.same.1 (λ x. rw c.in-Ask.is at c.next.ensures.nearer nodes x) fits)
 
 pub returns-in-Ask-clause-turn : goal.returns-in-Ask-clause-turn
 returns-in-Ask-clause-turn g c d begin h key v got try goes goal way to last ready =
@@ -21,8 +19,7 @@ returns-in-Ask-clause-turn g c d begin h key v got try goes goal way to last rea
     walk_waits g.R.Read.means c.args.self.now c.args.walk c.next.new.self c.args.side d begin h try goes key goal to (c.next.ensures.same.1 ∙ way) c.next.ensures.same.0 c.last_turns-turns.result turned c.in-Ask.step past waits
 
 pub returns-in-Done-clause-turn : goal.returns-in-Done-clause-turn
-returns-in-Done-clause-turn g c d begin h key v got try goes goal way to last ready = stands_there g.R.Read.means c.args.self.now c.look.new.self d h c.look.result (Look (first_children c.args.side (turn_to c.args.side c.args.turns).0) 0 (turn_to c.args.side c.args.turns)) (rw (c.children.ensures, c.to.ensures) at c.look.ensures.stands) (rw c.to.ensures at c.look.ensures.asked)
-    (begin, try, (goes, found_looks g.R.Read.means c.args.self.now c.args.walk c.next.new.self c.args.side c.args.turns (begun_at d begin) h c.next.result _ goes key goal (c.next.ensures.same.1 ∙ way) to last c.next.ensures.same.0 c.in-Done.is (c.next.ensures.turn (begun_at d begin) h goes.reads.run.1 (rw got ready))))
+returns-in-Done-clause-turn g c d begin h key v got try goes goal way to last ready = c.walked.ensures.turn d begin h key try goes to last (walk_finds g.R.Read.means c.args.self.now c.args.walk c.next.new.self (begun_at d begin) h c.next.result _ key goal (c.next.ensures.same.1 ∙ way) c.next.ensures.same.0 c.in-Done.is (c.next.ensures.turn (begun_at d begin) h goes.reads.run.1 (rw got ready)))
 
 pub returns-in-Done-clause-nearer : goal.returns-in-Done-clause-nearer
-returns-in-Done-clause-nearer g c nodes way fits = stands_nearer g.R.Read.means c.args.self.now c.look.new.self c.look.result (Look (first_children c.args.side (turn_to c.args.side c.args.turns).0) 0 (turn_to c.args.side c.args.turns)) _ (nodes_by c.args.self.now.trie nodes) _ (rw (c.children.ensures, c.to.ensures) at c.look.ensures.stands) (rw c.to.ensures at c.look.ensures.asked) (omega arith) (omega arith, omega arith)
+returns-in-Done-clause-nearer g c nodes way fits = below c.walked.result _ _ _ (c.walked.ensures.nearer (nodes_by c.args.self.now.trie nodes)) (past_walk _ _ _ _ _ _)
