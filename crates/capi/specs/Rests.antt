@@ -1,10 +1,11 @@
 -- What passes of dictionaries that last do between two calls: they rest, go away and come back.
-use Rattle.std.specs.Prelude.{◌≡◌, ◌≢◌, ◌<◌, ℕ, true, Option, Some, None, IfSome, Result, Ok, Err}
+use Rattle.std.specs.Prelude.{◌≡◌, ◌≢◌, ◌<◌, ℕ, Bool, false, true, Option, Some, None, IfSome, Result, Ok, Err}
 use Rattle.std.specs.Global.{Global}
 use Rattle.std.specs.declared.sync.Arc.{Arc}
 use Rattle.arena.specs.declared.number.PassNo.{PassNo}
 use Rattle.dict.specs.Typed.{TypedAllows}
 use Rattle.dict.specs.Words.{IsNumber, IsWideNumber}
+use Rattle.forest.specs.LookUps.{HasRestedIn}
 use Rattle.forest.specs.Rests.{HasOnlyRested}
 use Rattle.tables.specs.Passes.{Ground, PassView, steps_of}
 use Rattle.capi.specs.Owned.{lasts, owner_of, pass_of}
@@ -49,15 +50,15 @@ HasGoneAway (held.Trie h) told = told ≡ Err (held.Trie h)
 abbrev pub IsBack : AwayPass → OwnedPass → Type 0
 IsBack a c = (lasts c ≡ true) × StaysAs (away_owner a) (owner_of c) (away_of a) (pass_of c)
 
--- the pass has only rested, and waits for this other pass, if for one
-pub record HasRestedBy (old new : PassView) (told : Option PassNo) : Type 0 where
-  pub rested : HasRested old new
+-- the pass has rested, in a trie or in a tree, and waits for this other pass, if for one
+pub record HasRestedBy (trie : Bool) (old new : PassView) (told : Option PassNo) : Type 0 where
+  pub rested : HasRestedIn trie (TypedAllows IsNumber IsWideNumber) old new
   pub waits : IfSome told (λ other. (other.0 < new.layout.passes) × (other.0 ≢ new.number))
 
 -- a pass has rested, if its dictionary lasts; another is as it was, and waits for nobody
 abbrev pub HasRestedAs : OwnedPass → OwnedPass → Option PassNo → Type 0
-HasRestedAs (held.LastingTree h) new told = (lasts new ≡ true) × HasRestedBy h.pass (pass_of new) told
-HasRestedAs (held.LastingTrie h) new told = (lasts new ≡ true) × HasRestedBy h.pass (pass_of new) told
+HasRestedAs (held.LastingTree h) new told = (lasts new ≡ true) × HasRestedBy false h.pass (pass_of new) told
+HasRestedAs (held.LastingTrie h) new told = (lasts new ≡ true) × HasRestedBy true h.pass (pass_of new) told
 HasRestedAs (held.Tree h) new told = (new ≡ held.Tree h) × (told ≡ None)
 HasRestedAs (held.Trie h) new told = (new ≡ held.Trie h) × (told ≡ None)
 

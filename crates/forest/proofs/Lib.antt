@@ -26,6 +26,7 @@ mod Begun
 mod InWords
 mod CallStays
 mod Rested
+mod LookUps
 mod LastingLearns
 mod LastingMeets
 mod SlotTrees

@@ -61,6 +61,13 @@ left_now {lay} {number} {left} {at} x =
 pub slots_kept : (id : TableId) (site : Site) (lay : Layout) (kept : Kept) → IsLastingTable id site lay → site.turns ≡ Some kept.turns → lay ≡ kept.layout → slots_of_table site ≡ in_turns kept.layout kept.turns
 slots_kept id site lay kept last turns same = ap (slots_by site.layout) turns ∙ ap (λ l. in_turns l kept.turns) (last.layout ∙ same)
 
+-- so it is set to call
+pub set_kept : (allows : Layout → History → ℕ → Type 0) (id : TableId) (site : Site) (lay : Layout) (kept : Kept) (p : SeatedPass) (left : Remaining) → IsLastingTable id site lay → site.turns ≡ Some kept.turns → lay ≡ kept.layout → IsSetToCall allows (in_turns kept.layout kept.turns) p left kept.keeper → IsSetToCall allows (slots_of_table site) p left kept.keeper
+set_kept allows id site lay kept p left last turns same = subst (λ (t : Lasting). IsSetToCall allows t p left kept.keeper) (sym (slots_kept id site lay kept last turns same))
+
+pub set_now : {allows : Layout → History → ℕ → Type 0} {mode : Mode} {lay : Layout} {number first : ℕ} {left : Remaining} {at : Seat ℕ SeatView} {blames : List ℕ} → IsPassWith IsSeated allows mode lay number first left at blames → IsMap lay.mode → (kept : Kept) → KeepsRight (Some kept) (seated_at lay number at) → IsSetToCall allows (in_turns kept.layout kept.turns) (seated_at lay number at) left kept.keeper
+set_now x map kept keeps = record { kept = keeps; has = left_now x; ends = x.dealt map }
+
 -- Rows of no call
 
 of_no_call : (c : ℕ) (r : Row) → IsOfNoCall c r → r.pass.0 ≡ c → r.call ≡ 0

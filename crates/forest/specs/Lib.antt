@@ -12,5 +12,6 @@ pub mod Opened
 pub mod OpenInvariant
 pub mod Beginnings
 pub mod Rests
+pub mod LookUps
 pub mod LastingMeets
 pub mod Remains

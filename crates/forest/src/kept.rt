@@ -1,15 +1,16 @@
 //! What a pass keeps, and of which table.
-ghost use Rattle.std.specs.Prelude.{◌≡◌, ◌≢◌, ◌<◌, IfSome, IsTrue, Some};
-ghost use Rattle.arena.specs.History.{History};
+ghost use Rattle.std.specs.Prelude.{◌≡◌, ◌≢◌, ◌<◌, [], IfSome, IsTrue, None, Some};
+ghost use Rattle.arena.specs.History.{Extends, History};
 ghost use Rattle.arena.specs.Machines.{IsRun};
+ghost use Rattle.ordered_map.specs.Paths.{IsAnswerAt};
 ghost use Rattle.ordered_map.specs.Runs.{IsMapRun};
 ghost use Rattle.tables.specs.Seats.{IsSameSeat};
-ghost use Rattle.tables.specs.Shares.{EndsAsDealt};
 ghost use Rattle.tables.specs.Slotted.{in_turns};
+ghost use Rattle.tables.specs.TableRule.{history_of, past_of};
 ghost use Rattle.tables.specs.declared.view.SeatedPass.{SeatedPass};
 ghost use Rattle.upkeep.specs.UpkeepBook.{IsAtLasting};
-ghost use Rattle.upkeep.specs.UpkeepDeals.{DealsOn, HasShareLeft};
-ghost use Rattle.upkeep.specs.UpkeepKeeper.{IsKeeper, IsSetNow};
+ghost use Rattle.upkeep.specs.UpkeepDeals.{DealsOn};
+ghost use Rattle.upkeep.specs.UpkeepKeeper.{IsSetNow, IsSetToCall};
 ghost use Rattle.upkeep.specs.UpkeepLost.{AreUnborn, IsLostReply};
 ghost use Rattle.forest.specs.UpkeepKept.{KeepsRight};
 
@@ -21,6 +22,7 @@ use tables::table_shape::Keeping;
 use tables::view::SeatView;
 use tables::words::Words;
 use upkeep::keeper::Keeper;
+use upkeep::leaf::OwnLeaf;
 
 /// What a pass keeps so that its records come back, and how the slots of its table are taken again.
 #[derive(Drop)]
@@ -38,9 +40,33 @@ impl Kept {
         turns == Some(self.turns) && *layout == self.layout
     }
 
-    /// A pass rests, as its keeper says, if this is what it keeps of the table. So it is of each
-    /// pass of the table. It answers the first other pass that it waits for by then.
+    /// A pass begins to rest, as its keeper says, if this is what it keeps of the table. So it is
+    /// of each pass of the table.
     pub(crate) fn rest<S: Shape>(
+        &mut self,
+        words: &Words<S>,
+        turns: Option<Turns>,
+        layout: &Layout,
+        seat: &mut Seat<u8, SeatView>,
+        number: PassNo,
+        left: &Share,
+    )
+        requires turns { turns ≡ words.now.table.shared.key.turns }
+        requires pass { (p : SeatedPass) × IsAtLasting words.now layout.now seat.old p
+            × (p.number ≡ number) × IsSetToCall S.allows (in_turns self.old.layout self.old.turns) p left.now self.old.keeper
+            × ((h : History) → IsRun S.allows p.layout h → IsMapRun p.layout h) }
+        ensures table { IsSameSeat seat.old seat.new }
+        ensures rests { DealsOn
+            (IsSetNow S.allows (in_turns self.new.layout self.new.turns) left.now self.new.keeper)
+            seat.old.me.0 seat.new.me.0 }
+    {
+        if self.is_of(turns, layout) {
+            self.keeper.rest(words, layout, seat, number, left);
+        }
+    }
+
+    /// It ends to rest. It answers the first other pass that it waits for by then.
+    pub(crate) fn end_rest<S: Shape>(
         &mut self,
         words: &Words<S>,
         turns: Option<Turns>,
@@ -51,8 +77,7 @@ impl Kept {
     ) -> Option<PassNo>
         requires turns { turns ≡ words.now.table.shared.key.turns }
         requires pass { (p : SeatedPass) × IsAtLasting words.now layout.now seat.old p
-            × (p.number ≡ number) × HasShareLeft S.allows p left.old × EndsAsDealt left.old p.memory
-            × IsKeeper (in_turns self.old.layout self.old.turns) p self.old.keeper
+            × (p.number ≡ number) × IsSetToCall S.allows (in_turns self.old.layout self.old.turns) p left.old self.old.keeper
             × ((h : History) → IsRun S.allows p.layout h → IsMapRun p.layout h) }
         ensures table { IsSameSeat seat.old seat.new }
         ensures rests { DealsOn
@@ -63,8 +88,59 @@ impl Kept {
         if !self.is_of(turns, layout) {
             return None;
         }
-        self.keeper.rest(words, layout, seat, number, left);
+        self.keeper.end_rest(words, layout, seat, number, left);
         self.keeper.waits_for()
+    }
+
+    /// As it rests: the leaf of its own at which it looks next, if that may be out.
+    pub(crate) fn next_leaf<S: Shape>(
+        &mut self,
+        words: &Words<S>,
+        turns: Option<Turns>,
+        layout: &Layout,
+        seat: &mut Seat<u8, SeatView>,
+        left: &Share,
+    ) -> Option<OwnLeaf>
+        requires turns { turns ≡ words.now.table.shared.key.turns }
+        requires pass { (p : SeatedPass) × IsAtLasting words.now layout.now seat.old p
+            × IsSetToCall S.allows (in_turns self.old.layout self.old.turns) p left.now self.old.keeper
+            × ((h : History) → IsRun S.allows p.layout h → IsMapRun p.layout h) }
+        ensures table { IsSameSeat seat.old seat.new }
+        ensures rests { DealsOn
+            (IsSetNow S.allows (in_turns self.new.layout self.new.turns) left.now self.new.keeper)
+            seat.old.me.0 seat.new.me.0 }
+    {
+        if !self.is_of(turns, layout) {
+            return None;
+        }
+        self.keeper.next_leaf(words, layout, seat, left)
+    }
+
+    /// As it rests: the map did not have the key of this leaf, as the pass has found since it began
+    /// to. If so it is noted that the leaf is out.
+    pub(crate) fn note_leaf<S: Shape>(
+        &mut self,
+        words: &Words<S>,
+        turns: Option<Turns>,
+        layout: &Layout,
+        seat: &mut Seat<u8, SeatView>,
+        left: &Share,
+        leaf: OwnLeaf,
+    )
+        requires turns { turns ≡ words.now.table.shared.key.turns }
+        requires pass { (p : SeatedPass) × IsAtLasting words.now layout.now seat.old p
+            × IsSetToCall S.allows (in_turns self.old.layout self.old.turns) p left.now self.old.keeper
+            × ((h : History) → IsRun S.allows p.layout h → IsMapRun p.layout h) × (start : History)
+            × Extends start (history_of p.planting p.memory.rested)
+            × IsAnswerAt p.layout (past_of p []) start leaf.key None }
+        ensures table { IsSameSeat seat.old seat.new }
+        ensures rests { DealsOn
+            (IsSetNow S.allows (in_turns self.new.layout self.new.turns) left.now self.new.keeper)
+            seat.old.me.0 seat.new.me.0 }
+    {
+        if self.is_of(turns, layout) {
+            self.keeper.note_leaf(words, layout, seat, left, leaf);
+        }
     }
 }
 

@@ -13,6 +13,7 @@ mod kept;
 mod lasting;
 mod lasting_close;
 mod lasting_meet;
+mod look_up;
 mod meet;
 mod open;
 mod pass;

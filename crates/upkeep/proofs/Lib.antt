@@ -4,6 +4,7 @@ pub mod LastingTrees
 pub mod LastingFinished
 pub mod UpkeepStays
 pub mod UpkeepLost
+pub mod UpkeepLeaves
 pub mod UpkeepSteps
 pub mod UpkeepPeriod
 pub mod UpkeepBook

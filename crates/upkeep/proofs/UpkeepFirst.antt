@@ -1,5 +1,5 @@
 -- What a pass of a table that lasts keeps before its first step.
-use Rattle.std.proofs.Common.{◌≡◌, ℕ, List, [], ◌∷◌, None, inl, inr, refl, sym, ◌∙◌, ap, subst}
+use Rattle.std.proofs.Common.{arith, ◌<◌, ◌≡◌, ℕ, List, [], ◌∷◌, None, inl, inr, refl, sym, ◌∙◌, ap, subst}
 use Rattle.histories.specs.Common.{Row, Extends}
 use Rattle.planting.specs.Plantings.{PlantingView}
 use Rattle.slots.specs.Lasting.{Lasting}
@@ -17,10 +17,11 @@ ends_at_start planting [] = refl
 ends_at_start planting (r ∷ rs) = inr (ends_at_start planting rs)
 
 -- it is right, if its books are
-pub keeper_first : (t : Lasting) (o : ℕ) (p : SeatedPass) → p.memory ≡ first_memory t o → (keeper : Keeper) → keeper.often ≡ 0 → keeper.period ≡ None → keeper.nodes.kind ≡ Node → keeper.scxs.kind ≡ Scx → IsBook t p [] keeper.nodes → IsBook t p [] keeper.scxs → HasNoneLost keeper.nodes → HasNoneLost keeper.scxs → IsKeeper t p keeper
-keeper_first t o p memory keeper often period node_kind scx_kind nodes scxs none_node none_scx = record {
+pub keeper_first : (t : Lasting) (o : ℕ) (p : SeatedPass) → p.memory ≡ first_memory t o → (keeper : Keeper) → keeper.often ≡ 0 → keeper.period ≡ None → keeper.taken ≡ 0 → keeper.nodes.kind ≡ Node → keeper.scxs.kind ≡ Scx → IsBook t p [] keeper.nodes → IsBook t p [] keeper.scxs → HasNoneLost keeper.nodes → HasNoneLost keeper.scxs → IsKeeper t p keeper
+keeper_first t o p memory keeper often period taken node_kind scx_kind nodes scxs none_node none_scx = record {
   books = books;
   lost = record { nodes = λ i x there lost. absurd (none_node i x there lost); scxs = λ i x there lost. absurd (none_scx i x there lost) };
+  taken = λ n own less. absurd (omega (arith, less, taken));
 }
   where
     books : KeepsBooks t p keeper

@@ -2,13 +2,14 @@
 use Rattle.std.proofs.Common.{◌≡◌, ◌≢◌, ◌<◌, ◌≤◌, ◌+◌, ◌⊎◌, ℕ, suc, false, List, [], ◌∷◌, Option, Some, None, IfSome, MatchOption, slice_get, inl, inr, refl, sym, ◌∙◌, ap, subst, arith}
 use Rattle.arena.specs.declared.number.PassNo.{PassNo}
 use Rattle.arena.proofs.Lemmas.{ends_self, ends_trans}
-use Rattle.histories.specs.Common.{Layout, Row, History, Extends}
+use Rattle.histories.specs.Common.{Layout, Row, History, Extends, IsOwnNode, IsTakenNode}
 use Rattle.planting.specs.Plantings.{PlantingView}
+use Rattle.resting.proofs.Lemmas.{taken_node_since}
 use Rattle.slots.specs.Lasting.{Lasting}
 use Rattle.tables.specs.LastingNotes.{HasSeenAllRest, IsAmongThese, memory_away, memory_rested}
 use Rattle.tables.specs.TableRule.{history_of, past_of}
 use Rattle.upkeep.specs.UpkeepBook.{AreLostBy, HasPeriodEnded, HasTurnedBook, IsBook, IsLostBy, KeepsRests, SparesOthers, dealt_of, turn_of}
-use Rattle.upkeep.specs.UpkeepKeeper.{AwaitsNobody, DealsNoMore, HasLostBy, HasTakenRest, HasTurnedSlots, IsAwaited, IsBack, IsBackDuring, IsKeeper, KeepsBooks, KeepsSlotsSince, LosesNone, RunsSince, StaysOut}
+use Rattle.upkeep.specs.UpkeepKeeper.{AwaitsNobody, DealsNoMore, HasLostBy, HasTakenByRest, HasTakenRest, HasTurnedSlots, IsAwaited, IsBack, IsBackDuring, IsKeeper, KeepsBooks, KeepsSlotsSince, LosesNone, RunsSince, StaysOut}
 use Rattle.upkeep.specs.UpkeepPeriod.{BeginsPeriod, HasPeriod}
 use Rattle.upkeep.specs.UpkeepSteps.{HasGoneOnResting, KeepsSlots, RemembersLeaving, RemembersRest, RestsOn}
 use Rattle.tables.specs.declared.memory.PassMemory.{PassMemory}
@@ -27,7 +28,7 @@ use Rattle.upkeep.proofs.UpkeepTurns.{all_lost_as, lost_as, own_on, rest_as, slo
 -- Slots
 
 -- what is remembered of names and words is the same
-spares_equal : (t : Lasting) (m n : PassMemory) → n.notes ≡ m.notes → n.holds ≡ m.holds → n.empty ≡ m.empty → n.zeros ≡ m.zeros → SparesOthers t (λ r. ⊥) m n
+pub spares_equal : (t : Lasting) (m n : PassMemory) → n.notes ≡ m.notes → n.holds ≡ m.holds → n.empty ≡ m.empty → n.zeros ≡ m.zeros → SparesOthers t (λ r. ⊥) m n
 spares_equal t m n notes holds empty zeros = record {
   notes = λ x i. subst (IsAmongThese x) (sym notes) i;
   holds = λ x i d. subst (IsAmongThese x) (sym holds) i;
@@ -48,7 +49,7 @@ kinds_apart Scx Scx x y e = absurd cc
 
 module _ (t : Lasting) (p q : SeatedPass) (number : q.number ≡ p.number) (planting : q.planting ≡ p.planting) (spares : SparesOthers t (λ r. ⊥) p.memory q.memory) (deals : DealsNoMore p.memory q.memory) where
   -- what a pass knows of its slots is so later, if it remembers the same of names and words
-  book_on : (rows later : List Row) → Extends (history_of p.planting later) (history_of p.planting rows) → (own : OwnSlots) → IsBook t p rows own → IsBook t q later own
+  pub book_on : (rows later : List Row) → Extends (history_of p.planting later) (history_of p.planting rows) → (own : OwnSlots) → IsBook t p rows own → IsBook t q later own
   book_on rows later on own book = record {
     all = own_on t p q own own record { kind = refl; first = refl; turn = refl; end = refl; dealt = refl; count = refl; lost = λ i x there is. there } number (same_dealt own.kind p.memory q.memory deals) book.all;
     slots = λ i x from to is. slot_kept t p q number planting (λ r. ⊥) spares own.kind (own.first + i) (λ e. e) rows later on x (book.slots i x from to is);
@@ -114,6 +115,21 @@ lost_again p q layout number planting rested keeper x = record {
 pub lost_at_rest : (q : SeatedPass) (keeper : Keeper) → q.memory.rested ≡ q.known → HasLostBy q q.known keeper → HasLostBy q q.memory.rested keeper
 lost_at_rest q keeper e = subst (λ rows. HasLostBy q rows keeper) (sym e)
 
+-- What was taken as it rested
+
+-- a node of the pass's own was that before
+own_before : (p q : SeatedPass) → q.layout ≡ p.layout → q.number ≡ p.number → (n : ℕ) → IsOwnNode q.layout q.number.0 n → IsOwnNode p.layout p.number.0 n
+own_before p q layout number n own = subst (λ (l : Layout). IsOwnNode l p.number.0 n) layout (subst (λ (k : PassNo). IsOwnNode q.layout k.0 n) number own)
+
+-- so it was still, as long as the pass does not rest again
+pub taken_again : (p q : SeatedPass) → q.layout ≡ p.layout → q.number ≡ p.number → q.planting ≡ p.planting → q.memory.rested ≡ p.memory.rested → (next : ℕ) → HasTakenByRest p next → HasTakenByRest q next
+taken_again p q layout number planting rested next x n own less =
+    subst (λ h. IsTakenNode h n) (sym (rest_as p q planting rested)) (x n (own_before p q layout number n own) less)
+
+-- as it has just rested
+pub taken_now : (q : SeatedPass) (next : ℕ) → q.memory.rested ≡ q.known → ((n : ℕ) → IsOwnNode q.layout q.number.0 n → n < next → IsTakenNode (past_of q []) n) → HasTakenByRest q next
+taken_now q next is taken n own less = subst (λ rows. IsTakenNode (history_of q.planting rows) n) (sym is) (taken n own less)
+
 -- if no other slot is lost
 pub lost_of : (p : SeatedPass) (rows : List Row) (old new : Keeper) → LosesNone old new → HasLostBy p rows old → HasLostBy p rows new
 lost_of p rows old new none x = record {
@@ -144,6 +160,7 @@ pub keeper_stays : (t : Lasting) (p q : SeatedPass) → q.number ≡ p.number �
 keeper_stays t p q number layout planting memory more out keeper x = record {
   books = books_stay t p q number layout planting memory more keeper x.books;
   lost = lost_on p q layout number out keeper x.lost;
+  taken = taken_again p q layout number planting (ap (λ (m : PassMemory). m.rested) memory) keeper.taken x.taken;
 }
 
 -- Rests
@@ -165,10 +182,7 @@ away_deals p q e = record { nodes_to = ap (λ (m : PassMemory). m.nodes_to) e; s
 
 -- a rest that began with something else by which no more names are dealt
 pub rested_after : (t : Lasting) (keeper : Keeper) (p q r : SeatedPass) → DealsNoMore p.memory q.memory → HasTakenRest t keeper q r → HasTakenRest t keeper p r
-rested_after t keeper p q r deals x = record { kept = x.kept; there = x.there; deals = deals_on p.memory q.memory r.memory deals x.deals }
-
-pub turned_after : (t : Lasting) (keeper : Keeper) (p q r : SeatedPass) → DealsNoMore p.memory q.memory → HasTurnedSlots t keeper q r → HasTurnedSlots t keeper p r
-turned_after t keeper p q r deals x = record { slots = x.slots; there = x.there; deals = deals_on p.memory q.memory r.memory deals x.deals }
+rested_after t keeper p q r deals x = record { kept = x.kept; there = x.there; taken = x.taken; deals = deals_on p.memory q.memory r.memory deals x.deals }
 
 -- one that could not come back is there
 pub stays_there : (t : Lasting) (p : SeatedPass) (keeper : Keeper) → 4611686018427387904 ≤ keeper.often → KeepsBooks t p keeper → p.memory.away ≡ false
@@ -181,9 +195,13 @@ stays_there t p keeper many x = go x.there
 pub deals_same : (m : PassMemory) → DealsNoMore m m
 deals_same m = record { nodes_to = refl; scx_to = refl }
 
+-- where no period begins
+pub not_begun : (t : Lasting) (p : SeatedPass) (keeper : Keeper) → KeepsBooks t p keeper → p.memory.away ≡ false → HasTakenByRest p keeper.taken → HasTakenRest t keeper p p
+not_begun t p keeper x there taken = record { kept = x; there = there; taken = taken; deals = deals_same p.memory }
+
 -- where nothing is done
-pub rests_no_more : (t : Lasting) (p : SeatedPass) (keeper : Keeper) → 4611686018427387904 ≤ keeper.often → KeepsBooks t p keeper → HasTakenRest t keeper p p
-rests_no_more t p keeper many x = record { kept = x; there = stays_there t p keeper many x; deals = deals_same p.memory }
+pub rests_no_more : (t : Lasting) (p : SeatedPass) (keeper : Keeper) → 4611686018427387904 ≤ keeper.often → IsKeeper t p keeper → HasTakenRest t keeper p p
+rests_no_more t p keeper many x = not_begun t p keeper x.books (stays_there t p keeper many x.books) x.taken
 
 module _ (allows : Layout → History → ℕ → Type 0) (t : Lasting) (p q : SeatedPass) (goes : HasGoneOnResting allows p q) where
   -- a moment that the pass knew, it knows
@@ -215,10 +233,20 @@ module _ (allows : Layout → History → ℕ → Type 0) (t : Lasting) (p q : S
       period = subst (RunsSince t.table.passes q x.since) (sym period) (period_rested x.since old.period x.period);
     }
 
-    pub keeper_back : new.period ≡ old.period → StaysOut p q → IsKeeper t p old → IsKeeper t q new
-    keeper_back period out x = record {
+    -- and keeps what is right
+    pub rested_now : new.period ≡ old.period → HasTakenByRest q new.taken → KeepsBooks t p old → HasTakenRest t new p q
+    rested_now period taken x = record { kept = books_back period x; there = ap (λ (m : PassMemory). m.away) is; taken = taken; deals = rest_deals p q is }
+
+    taken_back : Extends (past_of p []) (history_of p.planting p.memory.rested) → HasTakenByRest p old.taken → HasTakenByRest q old.taken
+    taken_back rested x n own less = taken_node_since (history_of q.planting q.memory.rested) (history_of q.planting p.memory.rested) n
+        (subst (λ (m : PassMemory). Extends (history_of q.planting m.rested) (history_of q.planting p.memory.rested)) (sym is) (still_known p.memory.rested rested))
+        (subst (λ (l : PlantingView). IsTakenNode (history_of l p.memory.rested) n) (sym goes.planting) (x n (own_before p q goes.layout goes.number n own) less))
+
+    pub keeper_back : new.period ≡ old.period → new.taken ≡ old.taken → StaysOut p q → IsKeeper t p old → IsKeeper t q new
+    keeper_back period taken out x = record {
       books = books_back period x.books;
       lost = lost_of q q.known old new (loses_nothing old new nodes scxs) (lost_on p q goes.layout goes.number out old x.lost);
+      taken = subst (HasTakenByRest q) (sym taken) (taken_back x.books.slots.rested x.taken);
     }
 
   -- once the pass is away
@@ -234,7 +262,11 @@ module _ (allows : Layout → History → ℕ → Type 0) (t : Lasting) (p q : S
     }
 
     pub keeper_away : StaysOut p q → IsKeeper t p keeper → IsKeeper t q keeper
-    keeper_away out x = record { books = books_away x.books; lost = lost_on p q goes.layout goes.number out keeper x.lost }
+    keeper_away out x = record {
+      books = books_away x.books;
+      lost = lost_on p q goes.layout goes.number out keeper x.lost;
+      taken = taken_again p q goes.layout goes.number goes.planting (ap (λ (m : PassMemory). m.rested) is) keeper.taken x.taken;
+    }
 
   module _ (polls : KeepsSlots p.memory q.memory) (old new : Keeper) (often : new.often ≡ old.often) (nodes : new.nodes ≡ old.nodes) (scxs : new.scxs ≡ old.scxs) where
     -- as others are polled
@@ -253,17 +285,37 @@ module _ (allows : Layout → History → ℕ → Type 0) (t : Lasting) (p q : S
       known = still_known rows x.slots.known;
     }
 
+    -- what was taken as it rested, was so
+    module _ (same : new.taken ≡ old.taken) (taken : HasTakenByRest p old.taken) where
+      still_taken : HasTakenByRest q new.taken
+      still_taken = subst (HasTakenByRest q) (sym same) (taken_again p q goes.layout goes.number goes.planting polls.rested old.taken taken)
+
+      -- where the pass has only looked
+      pub looked_on : new.period ≡ old.period → q.memory.polls ≡ p.memory.polls → p.memory.away ≡ false → KeepsBooks t p old → HasTakenRest t new p q
+      looked_on period same_polls there x = record {
+        kept = record {
+          there = inr (polls.away ∙ there);
+          since = x.since;
+          slots = slots_polled x.since x.since (ends_self (history_of p.planting x.since)) (still_known x.since x.slots.known) x.slots;
+          period = subst (RunsSince t.table.passes q x.since) (sym period) (runs_on p q goes.number goes.planting (knows_more allows p q goes) same_polls t.table.passes x.since old.period x.period);
+        };
+        there = polls.away ∙ there;
+        taken = still_taken;
+        deals = polls_deal p.memory q.memory polls;
+      }
+
     -- if the period goes on
-    pub period_waits : (rows : List Row) (period : Period) → new.period ≡ Some period → HasPeriod t.table.passes q rows period → IsBack t p rows old → HasTakenRest t new p q
-    period_waits rows period is runs x = record {
+    pub period_waits : (rows : List Row) (period : Period) → new.period ≡ Some period → HasPeriod t.table.passes q rows period → new.taken ≡ old.taken → HasTakenByRest p old.taken → IsBack t p rows old → HasTakenRest t new p q
+    period_waits rows period is runs same taken x = record {
       kept = record { there = inr (polls.away ∙ x.there); since = rows; slots = (back_polled rows x).slots; period = subst (RunsSince t.table.passes q rows) (sym is) runs };
       there = polls.away ∙ x.there;
+      taken = still_taken same taken;
       deals = polls_deal p.memory q.memory polls;
     }
 
   -- as a period begins
-  pub begun : (rows : List Row) (old new : Keeper) (period : Period) → new.often ≡ old.often → new.nodes ≡ old.nodes → new.scxs ≡ old.scxs → new.period ≡ Some period → IsBack t p rows old → BeginsPeriod t.table.passes period p q → HasTakenRest t new p q
-  begun rows old new period often nodes scxs is x begins = record {
+  pub begun : (rows : List Row) (old new : Keeper) (period : Period) → new.often ≡ old.often → new.nodes ≡ old.nodes → new.scxs ≡ old.scxs → new.period ≡ Some period → new.taken ≡ old.taken → HasTakenByRest p old.taken → IsBack t p rows old → BeginsPeriod t.table.passes period p q → HasTakenRest t new p q
+  begun rows old new period often nodes scxs is same taken x begins = record {
     kept = record {
       there = inr (begins.keeps.away ∙ x.there);
       since = p.known;
@@ -271,20 +323,22 @@ module _ (allows : Layout → History → ℕ → Type 0) (t : Lasting) (p q : S
       period = subst (RunsSince t.table.passes q p.known) (sym is) begins.begins;
     };
     there = begins.keeps.away ∙ x.there;
+    taken = still_taken begins.keeps old new often nodes scxs same taken;
     deals = polls_deal p.memory q.memory begins.keeps;
   }
 
--- if none begins
-pub begun_none : (t : Lasting) (p : SeatedPass) (rows : List Row) (old : Keeper) → IsBack t p rows old → HasTakenRest t (record old { period = None }) p p
-begun_none t p rows old x = record {
+-- as a period is over, and all slots have been gone through
+pub over_now : (t : Lasting) (p q : SeatedPass) (old : Keeper) → HasTurnedSlots t old p q → HasTakenByRest q old.taken → HasTakenRest t (record old { period = None }) p q
+over_now t p q old x taken = record {
   kept = record {
     there = inr x.there;
-    since = rows;
+    since = q.known;
     slots = record { known = x.slots.known; rested = x.slots.rested; often = x.slots.often; node_kind = x.slots.node_kind; scx_kind = x.slots.scx_kind; nodes = x.slots.nodes; scxs = x.slots.scxs };
     period = tt;
   };
   there = x.there;
-  deals = deals_same p.memory;
+  taken = taken;
+  deals = x.deals;
 }
 
 -- A pass all of whose slots have been gone through: the nodes as it became q, and then the
@@ -303,6 +357,7 @@ module _ (allows : Layout → History → ℕ → Type 0) (t : Lasting) (p q r :
       scxs = two.book;
     };
     there = two.rests.away ∙ one.rests.away ∙ x.there;
+    rested = two.rests.rested ∙ one.rests.rested;
     deals = deals_on p.memory q.memory r.memory (turns_deal p.memory q.memory one.rests) (turns_deal q.memory r.memory two.rests);
   }
     where

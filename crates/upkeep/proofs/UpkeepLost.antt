@@ -7,7 +7,7 @@ use Rattle.slots.specs.Lasting.{Lasting}
 use Rattle.tables.specs.TableRule.{past_of}
 use Rattle.upkeep.specs.UpkeepBook.{AreLostBy, IsBook, IsKnownSo, IsLostBy, IsSlotSo, count_own, dealt_of, first_own, turn_of}
 use Rattle.upkeep.specs.UpkeepDeals.{IsNameAt}
-use Rattle.upkeep.specs.UpkeepKeeper.{IsKeeper, KeepsBooks, RunsSince}
+use Rattle.upkeep.specs.UpkeepKeeper.{HasTakenByRest, IsKeeper, KeepsBooks, RunsSince}
 use Rattle.upkeep.specs.UpkeepLost.{AreUnborn, IsFromTo, IsOrLoses, LosesOnly}
 use Rattle.upkeep.specs.declared.book.Known.{Known}
 use Rattle.upkeep.specs.declared.book.Known.TheVariants.{Lost, Used}
@@ -101,8 +101,8 @@ module _ (Are : ℕ → Type 0) (old new : OwnSlots) (x : LosesOnly Are old new)
 -- Keepers
 
 -- what a pass keeps is right once its keeper has lost nodes that were never in the tree or the trie
-pub keeper_lost : (t : Lasting) (p : SeatedPass) (from to : ℕ) (old new : Keeper) → LosesOnly (IsFromTo from to) old.nodes new.nodes → new.often ≡ old.often → new.period ≡ old.period → new.scxs ≡ old.scxs → AreUnborn p from to → IsKeeper t p old → IsKeeper t p new
-keeper_lost t p from to old new loses often period scxs out x = record {
+pub keeper_lost : (t : Lasting) (p : SeatedPass) (from to : ℕ) (old new : Keeper) → LosesOnly (IsFromTo from to) old.nodes new.nodes → new.often ≡ old.often → new.period ≡ old.period → new.scxs ≡ old.scxs → new.taken ≡ old.taken → AreUnborn p from to → IsKeeper t p old → IsKeeper t p new
+keeper_lost t p from to old new loses often period scxs taken out x = record {
   books = record {
     there = subst (λ n. (n < 4611686018427387904) ⊎ (p.memory.away ≡ false)) (sym often) books.there;
     since = books.since;
@@ -121,6 +121,7 @@ keeper_lost t p from to old new loses often period scxs out x = record {
     nodes = all_lost (IsFromTo from to) old.nodes new.nodes loses p.layout p.number.0 (past_of p []) (λ n is. subst (λ (k : RecordKind). IsLostBy p.layout p.number.0 (past_of p []) k n) (sym books.slots.node_kind) (out n is.0 is.1)) x.lost.nodes;
     scxs = subst (AreLostBy p.layout p.number.0 (past_of p [])) (sym scxs) x.lost.scxs;
   };
+  taken = subst (HasTakenByRest p) (sym taken) x.taken;
 }
   where
     books : KeepsBooks t p old

@@ -26,23 +26,6 @@ use Rattle.tables.proofs.Ruled.{same_pass}
 use Rattle.upkeep.proofs.UpkeepBook.{rests_same, spares_note, spares_same}
 use Rattle.upkeep.proofs.UpkeepTurn.{keeps_on, known_on, name_stays}
 
--- a word was loaded
-pub part_learnt : (allows : Layout → History → ℕ → Type 0) (s : ℕ) (part : ScxWord) (v w : SeatView) (n : ℕ) → LearnsPart allows s part v n w → RestsOn allows (HasLoaded s part n) v w
-part_learnt allows s part v w n x = by_pass x.2.learnt.pass (same_pass v.passes x.0 x.2.learnt.pass x.1 x.2.learnt.was) x.2.learnt.others x.2.learnt.by_others x.2.learnt.rows_are x.2.learnt.run x.2.learnt.is
-  where
-    direct : (others : List Row) → ByOthers x.0.number.0 others → x.2.rows ≡ others ++ x.0.known → IsRun allows x.0.layout (past_of x.0 others) → w.passes ≡ seated_pass x.0.number.0 x.0.layout x.0.planting x.0.memory x.2.rows ∷ [] → RestsOn allows (HasLoaded s part n) v w
-    direct others by rows run is = record {
-      pass = x.0;
-      later = seated_pass x.0.number.0 x.0.layout x.0.planting x.0.memory x.2.rows;
-      was = x.1;
-      is = is;
-      goes_on = record { number = refl; layout = refl; planting = refl; others = others; by_others = by; known = rows; sound = λ known. subst (λ l. IsRun allows x.0.layout (history_of x.0.planting l)) (sym rows) run };
-      holds = record { same = refl; value = x.2.value };
-    }
-
-    by_pass : (k : SeatedPass) → k ≡ x.0 → (others : List Row) → ByOthers k.number.0 others → x.2.rows ≡ others ++ k.known → IsRun allows k.layout (past_of k others) → w.passes ≡ seated_pass k.number.0 k.layout k.planting x.0.memory x.2.rows ∷ [] → RestsOn allows (HasLoaded s part n) v w
-    by_pass k e = subst (λ (k : SeatedPass). (others : List Row) → ByOthers k.number.0 others → x.2.rows ≡ others ++ k.known → IsRun allows k.layout (past_of k others) → w.passes ≡ seated_pass k.number.0 k.layout k.planting x.0.memory x.2.rows ∷ [] → RestsOn allows (HasLoaded s part n) v w) (sym e) direct
-
 -- what remembers the same is what it was
 pub name_loaded : (allows : Layout → History → ℕ → Type 0) (t : Lasting) (p q : SeatedPass) (slot s n : ℕ) (part : ScxWord) → HasGoneOnResting allows p q → HasLoaded s part n p q → IsNameIn t p.number.0 p.memory Scx slot s → IsNameIn t q.number.0 q.memory Scx slot s
 name_loaded allows t p q slot s n part goes x name = name_stays allows p q goes t Scx slot s (ap (λ (m : PassMemory). m.holds) x.same) name

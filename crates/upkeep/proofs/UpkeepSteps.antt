@@ -3,14 +3,14 @@ use Rattle.std.proofs.Common.{◌≡◌, ◌<◌, ◌++◌, ℕ, List, [], ◌�
 use Rattle.atomic_table.specs.Seated.{TableId}
 use Rattle.atomic_table.specs.Table.{Allows, Me, State}
 use Rattle.arena.proofs.Lemmas.{ends_self}
-use Rattle.histories.specs.Common.{Layout, Row, History, Extends, IsRun}
+use Rattle.histories.specs.Common.{Layout, Row, History, Extends, IsRun, Word}
 use Rattle.planting.specs.Plantings.{PlantingView}
 use Rattle.slots.specs.Counts.{rests_place}
 use Rattle.tables.specs.LastingRule.{LearnsWith, TableLasts}
 use Rattle.tables.specs.Ruled.{IsRuled, ruled_by}
 use Rattle.tables.specs.Slotted.{names_of_table, slots_by, slots_of_table}
-use Rattle.tables.specs.TableRule.{ByOthers, history_of, seated_pass}
-use Rattle.upkeep.specs.UpkeepSteps.{HasGoneOnResting, IsLastingTable, LearnsFrom, RestsOn}
+use Rattle.tables.specs.TableRule.{ByOthers, history_of, past_of, seated_pass}
+use Rattle.upkeep.specs.UpkeepSteps.{HasGoneOnResting, HasLoadedWord, IsLastingTable, LearnsFrom, LearnsWord, RestsOn}
 use Rattle.arena.specs.declared.number.PassNo.{PassNo}
 use Rattle.tables.specs.declared.memory.PassMemory.{PassMemory}
 use Rattle.tables.specs.declared.rule.Site.{Site}
@@ -127,3 +127,20 @@ module _ (allows : Layout → History → ℕ → Type 0) where
       (upkeep_allows allows site last.turns last.comes_back slots seat me (rests_place (slots_of_table site).table p.number.0) at (λ _. new) (λ n w. LearnsWith allows (after p.memory) me.0 w) (λ n w. LearnsFrom allows after me.0 w)
       (ap (λ (n : PassNo). rests_place (slots_of_table site).table n.0) same ∙ counts_at site lay number.0 last.layout ∙ sym there)
       (λ n w x. (p, one, x)) may)
+
+-- a word was loaded
+pub word_learnt : (allows : Layout → History → ℕ → Type 0) (word : Word) (v w : SeatView) (n : ℕ) → LearnsWord allows word v n w → RestsOn allows (HasLoadedWord word n) v w
+word_learnt allows word v w n x = by_pass x.2.learnt.pass (same_pass v.passes x.0 x.2.learnt.pass x.1 x.2.learnt.was) x.2.learnt.others x.2.learnt.by_others x.2.learnt.rows_are x.2.learnt.run x.2.learnt.is
+  where
+    direct : (others : List Row) → ByOthers x.0.number.0 others → x.2.rows ≡ others ++ x.0.known → IsRun allows x.0.layout (past_of x.0 others) → w.passes ≡ seated_pass x.0.number.0 x.0.layout x.0.planting x.0.memory x.2.rows ∷ [] → RestsOn allows (HasLoadedWord word n) v w
+    direct others by rows run is = record {
+      pass = x.0;
+      later = seated_pass x.0.number.0 x.0.layout x.0.planting x.0.memory x.2.rows;
+      was = x.1;
+      is = is;
+      goes_on = record { number = refl; layout = refl; planting = refl; others = others; by_others = by; known = rows; sound = λ known. subst (λ l. IsRun allows x.0.layout (history_of x.0.planting l)) (sym rows) run };
+      holds = record { same = refl; value = x.2.value };
+    }
+
+    by_pass : (k : SeatedPass) → k ≡ x.0 → (others : List Row) → ByOthers k.number.0 others → x.2.rows ≡ others ++ k.known → IsRun allows k.layout (past_of k others) → w.passes ≡ seated_pass k.number.0 k.layout k.planting x.0.memory x.2.rows ∷ [] → RestsOn allows (HasLoadedWord word n) v w
+    by_pass k e = subst (λ (k : SeatedPass). (others : List Row) → ByOthers k.number.0 others → x.2.rows ≡ others ++ k.known → IsRun allows k.layout (past_of k others) → w.passes ≡ seated_pass k.number.0 k.layout k.planting x.0.memory x.2.rows ∷ [] → RestsOn allows (HasLoadedWord word n) v w) (sym e) direct

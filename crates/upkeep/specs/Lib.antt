@@ -4,5 +4,6 @@ pub mod UpkeepBook
 pub mod UpkeepDeals
 pub mod UpkeepKeeper
 pub mod UpkeepLost
+pub mod UpkeepLeaves
 pub mod UpkeepScx
 pub mod UpkeepOpening

@@ -1,7 +1,7 @@
 -- What a pass keeps from one call to the next so that its records come back, and what it is to be
 -- right.
 use Rattle.std.specs.Prelude.{◌≡◌, ◌<◌, ◌⊎◌, ℕ, false, List, [], Option, Some, None}
-use Rattle.histories.specs.Common.{Layout, Remaining, Row, History, Extends}
+use Rattle.histories.specs.Common.{Layout, Remaining, Row, History, Extends, IsOwnNode, IsTakenNode}
 use Rattle.prims.specs.Moments.{AreFinished}
 use Rattle.prims.specs.Shares.{IsShare}
 use Rattle.resting.specs.Dead.{IsUnborn}
@@ -50,10 +50,15 @@ pub record HasLostBy (p : SeatedPass) (rows : List Row) (keeper : Keeper) : Type
   pub nodes : AreLostBy p.layout p.number.0 (history_of p.planting rows) keeper.nodes
   pub scxs : AreLostBy p.layout p.number.0 (history_of p.planting rows) keeper.scxs
 
+-- the pass p had taken all nodes of its own below this one as it rested last
+abbrev pub HasTakenByRest : SeatedPass → (next : ℕ) → Type 0
+HasTakenByRest p next = (n : ℕ) → IsOwnNode p.layout p.number.0 n → n < next → IsTakenNode (history_of p.planting p.memory.rested) n
+
 -- What the pass p keeps is right.
 pub record IsKeeper (t : Lasting) (p : SeatedPass) (keeper : Keeper) : Type 0 where
   pub books : KeepsBooks t p keeper
   pub lost : HasLostBy p p.known keeper
+  pub taken : HasTakenByRest p keeper.taken
 
 -- each slot that is lost was so before, and slots are of the same kinds
 pub record LosesNone (old new : Keeper) : Type 0 where
@@ -81,6 +86,7 @@ pub record DealsNoMore (m n : PassMemory) : Type 0 where
 pub record HasTakenRest (t : Lasting) (keeper : Keeper) (p q : SeatedPass) : Type 0 where
   pub kept : KeepsBooks t q keeper
   pub there : q.memory.away ≡ false
+  pub taken : HasTakenByRest q keeper.taken
   pub deals : DealsNoMore p.memory q.memory
 
 -- The pass p, which is q now, keeps what is right if it did, of whatever table, and if what was never
@@ -98,6 +104,7 @@ pub record IsBackWith (old new : Keeper) (p q : SeatedPass) : Type 0 where
 pub record HasTurnedSlots (t : Lasting) (keeper : Keeper) (p q : SeatedPass) : Type 0 where
   pub slots : KeepsSlotsSince t q q.known keeper
   pub there : q.memory.away ≡ false
+  pub rested : q.memory.rested ≡ p.memory.rested
   pub deals : DealsNoMore p.memory q.memory
 
 -- What the pass keeps of its slots is right since these rows, and it is there.

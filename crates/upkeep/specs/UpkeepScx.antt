@@ -1,13 +1,13 @@
 -- When a pass sees that an SCX-record of its own is dead.
-use Rattle.std.specs.Prelude.{◌≡◌, ◌<◌, ℕ, true, [], ◌∷◌}
+use Rattle.std.specs.Prelude.{◌≡◌, ◌<◌, ℕ, true, []}
 use Rattle.arena.specs.ScxRecords.{count, count_of, plan_finalizes}
-use Rattle.histories.specs.Common.{History, Layout, ScxWord, scx, value}
+use Rattle.histories.specs.Common.{History, Layout, ScxWord, scx}
 use Rattle.resting.specs.Dead.{WasDoneWith}
 use Rattle.slots.specs.Lasting.{Lasting}
 use Rattle.tables.specs.LastingNotes.{IsAmongThese, noted_as}
-use Rattle.tables.specs.LastingRule.{LoadsWord}
 use Rattle.tables.specs.TableRule.{past_of}
 use Rattle.upkeep.specs.UpkeepBook.{KeepsOthers, name_numbered, record_numbered}
+use Rattle.upkeep.specs.UpkeepSteps.{HasLoadedWord, LearnsWord}
 use Rattle.tables.specs.declared.memory.NoteView.TheVariants.{DoneWith}
 use Rattle.tables.specs.declared.memory.PassMemory.{PassMemory}
 use Rattle.upkeep.specs.declared.kind.RecordKind.TheVariants.{Scx}
@@ -16,12 +16,11 @@ use Rattle.tables.specs.declared.view.SeatView.{SeatView}
 
 -- the only pass of a seat has loaded this word of an SCX-record, which was n
 abbrev pub LearnsPart : (Layout → History → ℕ → Type 0) → (s : ℕ) → ScxWord → SeatView → ℕ → SeatView → Type 0
-LearnsPart allows s part v n w = (p : SeatedPass) × (v.passes ≡ p ∷ []) × LoadsWord allows p (scx s part) n v w
+LearnsPart allows s part = LearnsWord allows (scx s part)
 
 -- the pass p, which is q now, has loaded it, and remembers what it did
-pub record HasLoaded (s : ℕ) (part : ScxWord) (n : ℕ) (p q : SeatedPass) : Type 0 where
-  pub same : q.memory ≡ p.memory
-  pub value : value (past_of q []) (scx s part) ≡ n
+abbrev pub HasLoaded : (s : ℕ) → ScxWord → ℕ → SeatedPass → SeatedPass → Type 0
+HasLoaded s part = HasLoadedWord (scx s part)
 
 -- it is noted that the SCX-record was done with its node of this place
 abbrev pub IsDoneNoted : PassMemory → (s j : ℕ) → Type 0

@@ -2,9 +2,9 @@
 use Rattle.std.specs.Prelude.{◌≡◌, ◌+◌, ◌*◌, ◌≤◌, ◌++◌, ℕ, List, [], ◌∷◌, Some}
 use Rattle.atomic_table.specs.Seated.{TableId}
 use Rattle.atomic_table.specs.declared.shared.Seat.{Seat}
-use Rattle.histories.specs.Common.{Layout, Row, History, IsRun, table_size}
+use Rattle.histories.specs.Common.{Layout, Row, History, IsRun, Word, table_size, value}
 use Rattle.tables.specs.LastingNotes.{memory_away, memory_rested}
-use Rattle.tables.specs.LastingRule.{LearnsWith}
+use Rattle.tables.specs.LastingRule.{LearnsWith, LoadsWord}
 use Rattle.tables.specs.TableRule.{ByOthers, past_of}
 use Rattle.tables.specs.declared.memory.PassMemory.{PassMemory}
 use Rattle.tables.specs.declared.rule.Site.{Site}
@@ -49,6 +49,15 @@ pub record RestsOn (allows : Layout → History → ℕ → Type 0) (so : Seated
 -- it remembered and of the run.
 abbrev pub LearnsFrom : (Layout → History → ℕ → Type 0) → (PassMemory → List Row → PassMemory) → SeatView → SeatView → Type 0
 LearnsFrom allows after v w = (p : SeatedPass) × (v.passes ≡ p ∷ []) × LearnsWith allows (after p.memory) v w
+
+-- the only pass of a seat has loaded this word, of a name, which was n
+abbrev pub LearnsWord : (Layout → History → ℕ → Type 0) → Word → SeatView → ℕ → SeatView → Type 0
+LearnsWord allows word v n w = (p : SeatedPass) × (v.passes ≡ p ∷ []) × LoadsWord allows p word n v w
+
+-- the pass p, which is q now, has loaded it, and remembers what it did
+pub record HasLoadedWord (word : Word) (n : ℕ) (p q : SeatedPass) : Type 0 where
+  pub same : q.memory ≡ p.memory
+  pub value : value (past_of q []) word ≡ n
 
 -- the pass, which is q now, has rested after all that it knows, and remembers all else as before
 abbrev pub RemembersRest : SeatedPass → SeatedPass → Type 0

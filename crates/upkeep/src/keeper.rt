@@ -1,6 +1,6 @@
 //! What a pass keeps from one call to the next so that its records come back, and what it does as
 //! it rests.
-ghost use Rattle.std.specs.Prelude.{◌≡◌, ◌+◌, ◌<◌, ◌≤◌, ◌^◌, List, [], IfOk, MatchOption, length};
+ghost use Rattle.std.specs.Prelude.{◌≡◌, ◌+◌, ◌<◌, ◌≤◌, ◌^◌, false, List, [], IfOk, MatchOption, length};
 ghost use Rattle.arena.specs.declared.step.Row.{Row};
 ghost use Rattle.ordered_map.specs.Runs.{IsMapRun};
 ghost use Rattle.slots.specs.Lasting.{IsLasting, Lasting};
@@ -11,12 +11,11 @@ ghost use Rattle.prims.specs.Moments.{AreFinished};
 ghost use Rattle.tables.specs.LastingOpening.{first_memory};
 ghost use Rattle.tables.specs.Seats.{IsSameSeat};
 ghost use Rattle.tables.specs.Slotted.{in_turns};
-ghost use Rattle.tables.specs.Shares.{EndsAsDealt};
 ghost use Rattle.tables.specs.TableRule.{past_of};
 ghost use Rattle.tables.specs.declared.view.SeatedPass.{SeatedPass};
 ghost use Rattle.upkeep.specs.UpkeepBook.{HasPeriodEnded, IsAtLasting, IsBook, slots_in};
 ghost use Rattle.upkeep.specs.UpkeepDeals.{AreSlotsStill, DealsOn, HasDealt, HasShareLeft, next_of};
-ghost use Rattle.upkeep.specs.UpkeepKeeper.{AwaitsNobody, HasLostBy, HasTakenRest, HasTurnedSlots, IsAwaited, IsBack, IsBackDuring, IsBackWith, IsBetween, IsKeeper, IsSetNow, IsSetToDeal, IsStillSet, KeepsStill, LosesNone};
+ghost use Rattle.upkeep.specs.UpkeepKeeper.{AwaitsNobody, HasLostBy, HasTakenByRest, HasTakenRest, HasTurnedSlots, IsAwaited, IsBack, IsBackDuring, IsBackWith, IsBetween, IsKeeper, IsSetNow, IsSetToCall, IsSetToDeal, IsStillSet, KeepsBooks, KeepsStill, LosesNone};
 ghost use Rattle.upkeep.specs.UpkeepLost.{AreUnborn};
 ghost use Rattle.upkeep.specs.UpkeepSteps.{RestsOn};
 
@@ -39,13 +38,17 @@ use tables::words::Words;
 #[derive(Drop)]
 pub struct Keeper {
     often: u64,
-    period: Option<Period>,
-    nodes: OwnSlots,
+    pub(crate) period: Option<Period>,
+    pub(crate) nodes: OwnSlots,
     scxs: OwnSlots,
     /// Once so many names of nodes are dealt, or so many of SCX-records, less than a quarter of its
     /// slots may be free.
-    node_limit: u64,
+    pub(crate) node_limit: u64,
     scx_limit: u64,
+    /// While it rests, its names of nodes below this one were taken as it began to; else it is 0.
+    pub(crate) taken: u64,
+    /// Which of its slots of nodes it looks at next for a leaf that is out.
+    pub(crate) next_look: usize,
 }
 
 impl Keeper {
@@ -71,17 +74,42 @@ impl Keeper {
             scxs: open_slots(alloc, RecordKind::Scx, layout, turns, number)?,
             node_limit: 0,
             scx_limit: 0,
+            taken: 0,
+            next_look: 0,
         })
     }
 
-    /// A pass rests, or is back from where it was, between two calls. If by then all others have
-    /// rested since its period began, what it knows of its slots goes on, and the next begins. If
+    /// A pass begins to rest, between two calls. If by then all others have rested since its period
+    /// began, what it knows of its slots goes on, and no period runs until it ends to rest.
+    ///
+    /// It makes up to 1 + (passes - 1) steps, and where a period ends up to 20 more for each of its
+    /// slots.
+    pub fn rest<S: Shape>(
+        &mut self,
+        words: &Words<S>,
+        layout: &Layout,
+        seat: &mut Seat<u8, SeatView>,
+        number: PassNo,
+        left: &Share,
+    )
+        requires { (p : SeatedPass) × IsAtLasting words.now layout.now seat.old p
+            × (p.number ≡ number) × IsSetToCall S.allows (slots_in words.now) p left.now self.old
+            × ((h : History) → IsRun S.allows p.layout h → IsMapRun p.layout h) }
+        ensures table { IsSameSeat seat.old seat.new }
+        ensures rests { DealsOn (IsSetNow S.allows (slots_in words.now) left.now self.new)
+            seat.old.me.0 seat.new.me.0 }
+    {
+        unborn_stays_out();
+        self.take_rest(words, layout, seat, number, left);
+    }
+
+    /// A pass ends to rest: if no period runs, and it is short of free slots, the next one begins. If
     /// few names are left of its share, free slots get the next ones, so many in a row, and the
     /// share has those.
     ///
-    /// It makes up to 1 + 2 * (passes - 1) steps, where a period ends up to 20 more for each of its
-    /// slots, and where names are dealt up to 60 of each kind, and one for each name.
-    pub fn rest<S: Shape>(
+    /// It makes up to passes - 1 steps, and where names are dealt up to 60 of each kind, and one
+    /// for each name.
+    pub fn end_rest<S: Shape>(
         &mut self,
         words: &Words<S>,
         layout: &Layout,
@@ -90,17 +118,16 @@ impl Keeper {
         left: &mut Share,
     )
         requires { (p : SeatedPass) × IsAtLasting words.now layout.now seat.old p
-            × (p.number ≡ number) × IsRun S.allows p.layout (past_of p [])
-            × IsBetween p left.old × EndsAsDealt left.old p.memory
-            × IsKeeper (slots_in words.now) p self.old
+            × (p.number ≡ number) × IsSetToCall S.allows (slots_in words.now) p left.old self.old
             × ((h : History) → IsRun S.allows p.layout h → IsMapRun p.layout h) }
         ensures table { IsSameSeat seat.old seat.new }
         ensures rests { DealsOn (IsSetNow S.allows (slots_in words.now) left.new self.new)
             seat.old.me.0 seat.new.me.0 }
     {
         unborn_stays_out();
-        self.take_rest(words, layout, seat, number, left);
+        self.begin(words, layout, seat, number, left);
         self.deal(words, layout, seat, left);
+        self.taken = 0;
     }
 
     /// A pass goes away, between two calls, by one step: until it is back others do not wait for it.
@@ -170,27 +197,27 @@ impl Keeper {
             return;
         }
         self.often = rest(words, layout, seat, number, self.often);
-        match self.period {
-            None => self.begin(words, layout, seat, number, left),
-            Some(period) => self.go_on(words, layout, seat, number, left, period),
+        let (next, _) = left.next();
+        self.taken = next.0;
+        if let Some(period) = self.period {
+            self.go_on(words, layout, seat, left, period);
         }
     }
 
     /// Goes on with a period since which the pass has rested: once it is over, so does what is
-    /// known of the slots, and the next begins.
+    /// known of the slots.
     fn go_on<S: Shape>(
         &mut self,
         words: &Words<S>,
         layout: &Layout,
         seat: &mut Seat<u8, SeatView>,
-        number: PassNo,
         left: &Share,
         mut period: Period,
     )
         requires { (p : SeatedPass) × (since : List Row)
-            × IsAtLasting words.now layout.now seat.old p × (p.number ≡ number)
+            × IsAtLasting words.now layout.now seat.old p
             × IsBackDuring (slots_in words.now) p since period self.old × HasShareLeft S.allows p left.now
-            × HasLostBy p p.memory.rested self.old }
+            × HasLostBy p p.memory.rested self.old × HasTakenByRest p self.old.taken }
         ensures table { IsSameSeat seat.old seat.new }
         ensures lost { LosesNone self.old self.new }
         ensures rests { RestsOn S.allows (HasTakenRest (slots_in words.now) self.new)
@@ -198,7 +225,7 @@ impl Keeper {
     {
         if period.poll(words, layout, seat) {
             self.turn(words, layout, seat, left);
-            self.begin(words, layout, seat, number, left);
+            self.period = None;
         } else {
             self.period = Some(period);
         }
@@ -219,6 +246,7 @@ impl Keeper {
             × HasLostBy p p.memory.rested self.old }
         ensures table { IsSameSeat seat.old seat.new }
         ensures lost { LosesNone self.old self.new }
+        ensures taken { self.new.taken ≡ self.old.taken }
         ensures turned { RestsOn S.allows (HasTurnedSlots (slots_in words.now) self.new)
             seat.old.me.0 seat.new.me.0 }
     {
@@ -236,7 +264,8 @@ impl Keeper {
         self.nodes.is_short(self.node_limit, nodes) || self.scxs.is_short(self.scx_limit, scxs)
     }
 
-    /// Begins a period, if it is short of free slots: each period looks at all slots as it ends.
+    /// Begins a period, if none runs and it is short of free slots: each period looks at all slots
+    /// as it ends.
     fn begin<S: Shape>(
         &mut self,
         words: &Words<S>,
@@ -245,16 +274,15 @@ impl Keeper {
         number: PassNo,
         left: &Share,
     )
-        requires { (p : SeatedPass) × (since : List Row)
-            × IsAtLasting words.now layout.now seat.old p × (p.number ≡ number)
-            × IsBack (slots_in words.now) p since self.old }
+        requires { (p : SeatedPass) × IsAtLasting words.now layout.now seat.old p
+            × (p.number ≡ number) × KeepsBooks (slots_in words.now) p self.old
+            × (p.memory.away ≡ false) × HasTakenByRest p self.old.taken }
         ensures table { IsSameSeat seat.old seat.new }
         ensures lost { LosesNone self.old self.new }
         ensures rests { RestsOn S.allows (HasTakenRest (slots_in words.now) self.new)
             seat.old.me.0 seat.new.me.0 }
     {
-        self.period = None;
-        if self.is_short(left) {
+        if self.period.is_none() && self.is_short(left) {
             self.period = Some(Period::begin(words, layout, seat, number));
         }
     }

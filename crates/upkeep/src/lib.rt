@@ -8,6 +8,8 @@ pub mod deal;
 pub mod keeper;
 pub mod kind;
 pub mod lasting_sights;
+pub mod leaf;
+pub mod look_up;
 pub mod looks;
 pub mod lost;
 pub mod names;

@@ -6,8 +6,7 @@ use Rattle.upkeep.specs.UpkeepScx.{LearnsPart}
 use Rattle.tables.specs.LastingRule.{LoadsWord}
 use Rattle.upkeep.specs.declared.kind.RecordKind.TheVariants.{Scx}
 use Rattle.upkeep.proofs.UpkeepLooks.{passes_in, scx_in_slot, table_in}
-use Rattle.upkeep.proofs.UpkeepScx.{part_learnt}
-use Rattle.upkeep.proofs.UpkeepSteps.{upkeep_allows}
+use Rattle.upkeep.proofs.UpkeepSteps.{upkeep_allows, word_learnt}
 use Rattle.upkeep.proofs.scx.load_part.Goals as goal
 
 pub place-at-requires : goal.place-at-requires
@@ -28,4 +27,4 @@ load_with-requires-clause-may g c =
     (c.sights_last.ensures.loads t site.planting c.args.words.now.table.shared.table_id.slots c.args.seat.now.id c.args.seat.now.me r.0 (name_numbered Scx of.name) (scx of.name of.part) r.1.alone is_pass r.3.held refl (own_scx_inside t.lay r.0.number.0 of.name is_pass r.3.own, c.requires.part))
 
 pub returns-clause-loaded : goal.returns-clause-loaded
-returns-clause-loaded g c = part_learnt g.S.Shape.allows c.args.of.name c.args.of.part c.args.seat.now.me.0 c.load_with.new.seat.me.0 c.load_with.result c.load_with.ensures.learnt
+returns-clause-loaded g c = word_learnt g.S.Shape.allows (scx c.args.of.name c.args.of.part) c.args.seat.now.me.0 c.load_with.new.seat.me.0 c.load_with.result c.load_with.ensures.learnt

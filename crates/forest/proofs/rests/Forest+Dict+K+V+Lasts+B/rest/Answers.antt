@@ -1,61 +1,27 @@
-use Rattle.std.proofs.Common.{◌<◌, ◌≢◌, ◌∙◌, IfSome, ap, refl, sym, subst}
-use Rattle.histories.specs.Common.{Layout}
-use Rattle.dict.specs.Laws.Begins.{dict_mode}
-use Rattle.dict.specs.Laws.TypedMaps.{typed_run}
+use Rattle.std.proofs.Common.{Bool, subst, sym, ◌∙◌}
+use Rattle.dict.specs.Typed.{TypedAllows}
 use Rattle.dict.specs.Words.{IsWordOf}
-use Rattle.forest.specs.PassInvariant.{layout_in, seated_in}
-use Rattle.tables.specs.Shares.{HasFewNames}
-use Rattle.tables.specs.Slotted.{in_turns}
-use Rattle.forest.specs.UpkeepKept.{KeepsRight}
-use Rattle.forest.proofs.Rested.{at_lasting, left_now, rest_keeps, rest_pass, rest_says, rested_nothing}
-use Rattle.upkeep.proofs.UpkeepSteps.{passes_of_table}
+use Rattle.forest.specs.LookUps.{HasRestedIn}
+use Rattle.forest.proofs.LookUps.{only_rests, rests_then}
 use Rattle.forest.proofs.rests.Forest+Dict+K+V+Lasts+B.rest.Goals as goal
 
-pub returns-in_default-clause-rested : goal.returns-in_default-clause-rested
-returns-in_default-clause-rested g c = rw (← c.pass.view_is) (rested_nothing c.pass.invariant.0)
-
-pub rest-waits_for-requires-clause-turns : goal.rest-waits_for-requires-clause-turns
-rest-waits_for-requires-clause-turns g c = c.self.invariant.5
-
-pub rest-waits_for-requires-clause-pass : goal.rest-waits_for-requires-clause-pass
-rest-waits_for-requires-clause-pass g c =
-    let p = c.pass.inside in
-    let x = c.pass.invariant.0 in
-    let of = rw (← c.pass.view_is, ← c.self.view_is) at c.requires.pass in (
-      seated_in p,
-      at_lasting c.self.inside.words c.self.inside.plan.layout (layout_in p) p.number.0 p.seat (c.self.invariant.6 refl).0 of.0 of.1 x.seat.alone x.is_pass,
-      refl,
-      left_now x,
-      x.dealt (dict_mode (layout_in p).mode (g.B.Balance.trie g.B.FixedBalance.the) x.is_mode),
-      subst (λ kept. KeepsRight kept (seated_in p)) (sym c.take.ensures.value ∙ c.in-Some.is) (c.pass.invariant.1 refl),
-      λ h run. (dict_mode (layout_in p).mode (g.B.Balance.trie g.B.FixedBalance.the) x.is_mode, typed_run (IsWordOf g.K.WordKey.is_valid g.K.WordKey.word_of) (IsWordOf g.V.WordValue.is_valid g.V.WordValue.word_of) (layout_in p) h run),
-    )
-
-pub invariant_of-pass-2 : goal.invariant_of-pass-2
-invariant_of-pass-2 g c =
-    let p = c.pass.inside in
-    let x = c.pass.invariant.0 in
-    let of = rw (← c.pass.view_is, ← c.self.view_is) at c.requires.pass in
-    let many = subst (λ (l : Layout). ¬ HasFewNames l) (sym of.1) (c.self.invariant.6 refl).1 in
-    let kept = c.rest-waits_for.new.self in
-    let t = in_turns kept.layout kept.turns in (
-      rest_pass x many t c.rest-waits_for.new.left kept.keeper c.rest-waits_for.new.seat c.rest-waits_for.ensures.table c.rest-waits_for.ensures.rests,
-      λ lasts. rest_keeps x many t c.rest-waits_for.new.left kept.keeper c.rest-waits_for.new.seat c.rest-waits_for.ensures.table c.rest-waits_for.ensures.rests,
-    )
+pub returns-then-in_trie-clause-rested : goal.returns-then-in_trie-clause-rested
+returns-then-in_trie-clause-rested g c =
+    let allows = (TypedAllows (IsWordOf g.K.WordKey.is_valid g.K.WordKey.word_of) (IsWordOf g.V.WordValue.is_valid g.V.WordValue.word_of)) in
+    let trie = (g.B.Balance.trie g.B.FixedBalance.the) in
+    let old = c.args.pass.now in
+    let mid = c.begin_rest.new.pass in
+    let looked = c.look_up_next.new.pass in
+    let new = c.end_rest.new.pass in
+    rests_then trie allows old looked new (c.look_up_next.ensures.share ∙ c.begin_rest.ensures.share)
+    (rests_then trie allows old mid looked c.begin_rest.ensures.share (only_rests trie allows old mid c.begin_rest.ensures.rested) (subst (λ (b : Bool). HasRestedIn b allows mid looked) (sym c.if-in_trie.true ∙ c.in_trie.ensures) c.look_up_next.ensures.rested))
+    (only_rests trie allows looked new c.end_rest.ensures.rested)
 
 pub returns-clause-rested : goal.returns-clause-rested
 returns-clause-rested g c =
-    let p = c.pass.inside in
-    let x = c.pass.invariant.0 in
-    let of = rw (← c.pass.view_is, ← c.self.view_is) at c.requires.pass in
-    let many = subst (λ (l : Layout). ¬ HasFewNames l) (sym of.1) (c.self.invariant.6 refl).1 in
-    let kept = c.rest-waits_for.new.self in
-    rw (← c.pass.view_is) (rest_says x many (in_turns kept.layout kept.turns) c.rest-waits_for.new.left kept.keeper c.rest-waits_for.new.seat c.rest-waits_for.ensures.table c.rest-waits_for.ensures.rests)
-
-pub returns-clause-waits : goal.returns-clause-waits
-returns-clause-waits g c =
-    let p = c.pass.inside in
-    let of = rw (← c.pass.view_is, ← c.self.view_is) at c.requires.pass in
-    let key = c.self.inside.words.table.shared.key in
-    let last = (c.self.invariant.6 refl).0 in
-    subst (λ n. IfSome c.rest-waits_for.result (λ other. (other.0 < n) × (other.0 ≢ p.number.0))) (sym (ap (λ (l : Layout). l.passes) of.1 ∙ passes_of_table key ∙ ap (λ (l : Layout). l.passes) last.layout)) c.rest-waits_for.ensures.waits
+    let allows = (TypedAllows (IsWordOf g.K.WordKey.is_valid g.K.WordKey.word_of) (IsWordOf g.V.WordValue.is_valid g.V.WordValue.word_of)) in
+    let trie = (g.B.Balance.trie g.B.FixedBalance.the) in
+    let old = c.args.pass.now in
+    let mid = c.begin_rest.new.pass in
+    let new = c.end_rest-2.new.pass in
+    rests_then trie allows old mid new c.begin_rest.ensures.share (only_rests trie allows old mid c.begin_rest.ensures.rested) (only_rests trie allows mid new c.end_rest-2.ensures.rested)

@@ -25,7 +25,7 @@ returns-clause-back g c =
     let new = record old { often = c.rest-self.result } in
     seat_as allows RemembersRest (IsBackWith old new) c.args.seat.now.me.0 c.rest-self.new.seat.me.0
     (λ p q goes was e. record {
-      keeps = record { kept = λ t out x. keeper_back allows t p q goes e old new c.rest-self.ensures.often refl refl refl out x; deals = rest_deals p q e };
+      keeps = record { kept = λ t out x. keeper_back allows t p q goes e old new c.rest-self.ensures.often refl refl refl refl out x; deals = rest_deals p q e };
       there = λ t x. ap (λ (m : PassMemory). m.away) e;
     })
     c.rest-self.ensures.rests
