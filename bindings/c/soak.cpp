@@ -1,8 +1,9 @@
 // A soak of a dictionary that lasts: threads make random calls of all kinds on passes of small shares, rest after 1 to
 // 64 calls, go away now and then and are back, for as long as is asked. Every few seconds all meet, and trade passes:
-// what has gone in and not come out, by their replies, has to be what the map has. Each reply has to be possible, no
-// call may stay Full once its pass waits for nobody, and memory may not grow. Each minute it prints a line of figures;
-// its status is 0 if nothing was wrong. `soak NAME=NUMBER ..` takes what `Options` has.
+// what has gone in and not come out, by their replies, has to be what the map has. Each reply has to be possible: so a
+// key that one thread alone sets never has an older value for it. No call may stay Full once its pass waits for nobody,
+// and memory may not grow. Each minute it prints a line of figures; its status is 0 if nothing was wrong. `soak
+// NAME=NUMBER ..` takes what `Options` has.
 #include "regnubas.h"
 
 #include <atomic>
@@ -78,9 +79,15 @@ uint64_t mixed(uint64_t word) {
 
 // The keys rise with their places: eight near each other, and the next eight far away; the first is 0, the last the
 // greatest of all.
+uint64_t apart(uint64_t keys) { return UINT64_MAX / (keys / 8 + 1); }
+
 uint64_t key_at(uint64_t place, uint64_t keys) {
-    if (place + 1 == keys) return UINT64_MAX;
-    return place / 8 * (UINT64_MAX / (keys / 8 + 1)) + place % 8;
+    return place + 1 == keys ? UINT64_MAX : place / 8 * apart(keys) + place % 8;
+}
+
+// Where the key is, if it is any of these.
+uint64_t place_of(uint64_t key, uint64_t keys) {
+    return key == UINT64_MAX ? keys - 1 : key / apart(keys) * 8 + key % apart(keys);
 }
 
 // A value shows its key in its low word, and both in its high word, which is 0 in one of four.
@@ -109,8 +116,8 @@ struct Balance {
     }
 };
 
-// Puts these pairs in, which rise by key from `low` on.
-void put_in(Balance &balance, const regnubas_pair *pairs, uint64_t count, uint64_t low, uint64_t high) {
+// Adds these pairs up, which rise by key from `low` on.
+void add_up(Balance &balance, const regnubas_pair *pairs, uint64_t count, uint64_t low, uint64_t high) {
     for (uint64_t i = 0; i < count; i++) {
         const uint64_t key = pairs[i].key, least = i == 0 ? low : pairs[i - 1].key + 1;
         demand(least <= key && key <= high && (i == 0 || least != 0), "a pair out of its range, or order", key);
@@ -200,20 +207,29 @@ struct Shared {
     }
 };
 
+// What a thread knows of a key that it alone sets: the value that it has, unless another has taken it away since.
+struct Own {
+    bool is_set = false;
+    regnubas_value value = {};
+};
+
 // Between two meetings the calls of a thread lean so.
 enum Mood : uint32_t { EVEN, GROW, IN_ORDER, SHRINK, MOODS };
 
 class Worker {
     Shared &all;
     Tally &tally;
-    uint64_t place; // of its pass
+    const uint64_t number, keys;
+    uint64_t seat; // the place of its pass
     Draws draws;
     Mood mood = GROW;
     uint64_t next = 0;
+    std::vector<Own> own; // by the places of keys
 
   public:
-    Worker(Shared &shared, uint64_t number)
-        : all(shared), tally(shared.tallies[number]), place(number), draws(shared.options.seed << 8 | number) {}
+    Worker(Shared &shared, uint64_t which)
+        : all(shared), tally(shared.tallies[which]), number(which), keys(shared.options.keys), seat(which),
+          draws(shared.options.seed << 8 | which), own(keys) {}
 
     // Until the last meeting.
     void work() {
@@ -227,11 +243,32 @@ class Worker {
     }
 
   private:
-    regnubas_pass *pass() { return &all.passes[place]; }
+    regnubas_pass *pass() { return &all.passes[seat]; }
 
-    uint64_t draw_key() { return key_at(draws.below(all.options.keys), all.options.keys); }
+    uint64_t draw_place() { return draws.below(keys); }
 
-    uint64_t next_key() { return key_at(next++ % all.options.keys, all.options.keys); }
+    // Half the keys are set by one thread alone each: where this is another one, the key before.
+    bool is_ones(uint64_t place) const { return place % 2 != 0; }
+    bool is_own(uint64_t place) const { return is_ones(place) && place / 2 % all.options.threads == number; }
+    uint64_t may_set(uint64_t place) const { return is_ones(place) && !is_own(place) ? place - 1 : place; }
+
+    // A reply has shown a pair: the key has what its thread has set last.
+    void see(uint64_t key, regnubas_value value) {
+        const uint64_t place = place_of(key, keys);
+        if (!demand(place < keys && key_at(place, keys) == key && fits(key, value), "a key, or its value", key)) return;
+        if (is_own(place)) demand(own[place].is_set && same(own[place].value, value), "an old value", key);
+    }
+
+    void put_in(uint64_t place, regnubas_value value) {
+        tally.balance.in(key_at(place, keys), value);
+        if (is_own(place)) own[place] = {true, value};
+    }
+
+    void take_out(uint64_t key, regnubas_value value) {
+        tally.balance.out(key, value);
+        const uint64_t place = place_of(key, keys);
+        if (place < keys) own[place].is_set = false;
+    }
 
     // Whether it waits for another pass.
     bool rest() {
@@ -239,25 +276,25 @@ class Worker {
         const uint32_t status = regnubas_rest(pass(), &other);
         tally.add(RESTS, 1);
         const bool waits = status == REGNUBAS_SOME;
-        demand(waits ? other < all.options.threads && other != place : status == REGNUBAS_NONE, "a rest", other);
+        demand(waits ? other < all.options.threads && other != seat : status == REGNUBAS_NONE, "a rest", other);
         return waits;
     }
 
-    void go_away() { demand(regnubas_away(pass()) == REGNUBAS_NONE, "away", place); }
+    void go_away() { demand(regnubas_away(pass()) == REGNUBAS_NONE, "away", seat); }
 
-    void come_back() { demand(regnubas_back(pass()) == REGNUBAS_NONE, "back", place); }
+    void come_back() { demand(regnubas_back(pass()) == REGNUBAS_NONE, "back", seat); }
 
     void go_away_for_a_while() {
         tally.add(AWAYS, 1);
         go_away();
-        demand(regnubas_get(pass(), draw_key()).status == REGNUBAS_NO_PASS, "a call while it is away", place);
+        demand(regnubas_get(pass(), 0).status == REGNUBAS_NO_PASS, "a call while it is away", seat);
         const uint64_t most = draws.below(16) == 0 ? 500000 : 20000;
         std::this_thread::sleep_for(std::chrono::microseconds(draws.below(most)));
         come_back();
     }
 
     // A call is made until it is done. If the share is used up it rests before it asks again.
-    template <typename Call> auto ask(Figure kind, Call call) {
+    template <typename Call> auto ask(Figure kind, Call call) -> decltype(call()) {
         Clock::time_point begin, now; // of what is refused
         bool waits = false;
         for (uint32_t alone = 0, asked = 0;; asked++) {
@@ -298,88 +335,102 @@ class Worker {
     }
 
     // Whether a call has told a value that the key may have had, or that it had none.
-    bool has_told(regnubas_answer answer, uint64_t key) {
+    bool has_told(regnubas_answer answer, uint64_t place) {
         if (answer.status > REGNUBAS_SOME) return false;
-        const bool some = answer.status == REGNUBAS_SOME;
-        demand(some ? fits(key, answer.value) : same(answer.value, {0, 0}), "an answer's value", key);
+        if (answer.status == REGNUBAS_SOME) see(key_at(place, keys), answer.value);
+        else {
+            demand(same(answer.value, {0, 0}), "a value of none", place);
+            own[place].is_set = false;
+        }
         return true;
     }
 
-    regnubas_answer get(uint64_t key) {
-        const auto answer = ask(GET, [&] { return regnubas_get(pass(), key); });
-        has_told(answer, key);
+    // What a call of one key has told.
+    template <typename Call> regnubas_answer tell(Figure kind, uint64_t place, Call call) {
+        const uint64_t key = key_at(place, keys);
+        const auto answer = ask(kind, [&] { return call(pass(), key); });
+        has_told(answer, place);
         return answer;
     }
 
-    void insert(uint64_t key) {
-        const regnubas_value value = value_for(key, draws.next());
-        const auto old = ask(INSERT, [&] { return regnubas_insert(pass(), key, value); });
-        if (!has_told(old, key)) return;
-        if (old.status == REGNUBAS_SOME) tally.balance.out(key, old.value);
-        tally.balance.in(key, value);
+    regnubas_answer get(uint64_t place) { return tell(GET, place, regnubas_get); }
+
+    regnubas_value draw_value(uint64_t place) { return value_for(key_at(place, keys), draws.next()); }
+
+    void insert(uint64_t place) {
+        const regnubas_value value = draw_value(place);
+        const auto old =
+            tell(INSERT, place, [&](regnubas_pass *by, uint64_t key) { return regnubas_insert(by, key, value); });
+        if (old.status == REGNUBAS_SOME) take_out(key_at(place, keys), old.value);
+        if (old.status <= REGNUBAS_SOME) put_in(place, value);
     }
 
-    void insert_new(uint64_t key) {
-        const regnubas_value value = value_for(key, draws.next());
-        const auto old = ask(INSERT_NEW, [&] { return regnubas_insert_new(pass(), key, value); });
-        if (has_told(old, key) && old.status == REGNUBAS_NONE) tally.balance.in(key, value);
+    void insert_new(uint64_t place) {
+        const regnubas_value value = draw_value(place);
+        const auto old = tell(INSERT_NEW, place, [&](regnubas_pass *by, uint64_t key) {
+            return regnubas_insert_new(by, key, value);
+        });
+        if (old.status == REGNUBAS_NONE) put_in(place, value);
     }
 
     // A value that the key is likely to have, if it has one.
-    regnubas_value expect(uint64_t key) {
-        const regnubas_answer seen = get(key);
-        return seen.status == REGNUBAS_SOME && draws.below(8) > 0 ? seen.value : value_for(key, draws.next());
+    regnubas_value expect(uint64_t place) {
+        const regnubas_answer seen = get(place);
+        return seen.status == REGNUBAS_SOME && draws.below(8) > 0 ? seen.value : draw_value(place);
     }
 
-    void replace_if(uint64_t key) {
-        const regnubas_value expected = expect(key), value = value_for(key, draws.next());
-        const auto old = ask(REPLACE_IF, [&] { return regnubas_replace_if(pass(), key, expected, value); });
-        if (!has_told(old, key) || old.status == REGNUBAS_NONE || !same(old.value, expected)) return;
-        tally.balance.out(key, expected);
-        tally.balance.in(key, value);
+    void replace_if(uint64_t place) {
+        const regnubas_value expected = expect(place), value = draw_value(place);
+        const auto old = tell(REPLACE_IF, place, [&](regnubas_pass *by, uint64_t key) {
+            return regnubas_replace_if(by, key, expected, value);
+        });
+        if (old.status != REGNUBAS_SOME || !same(old.value, expected)) return;
+        take_out(key_at(place, keys), expected);
+        put_in(place, value);
     }
 
-    void take(uint64_t key) {
-        const auto old = ask(DELETE, [&] { return regnubas_delete(pass(), key); });
-        if (has_told(old, key) && old.status == REGNUBAS_SOME) tally.balance.out(key, old.value);
+    void take(uint64_t place) {
+        const auto old = tell(DELETE, place, regnubas_delete);
+        if (old.status == REGNUBAS_SOME) take_out(key_at(place, keys), old.value);
     }
 
-    void delete_if(uint64_t key) {
-        const regnubas_value expected = expect(key);
-        const auto old = ask(DELETE_IF, [&] { return regnubas_delete_if(pass(), key, expected); });
-        if (!has_told(old, key) || old.status == REGNUBAS_NONE || !same(old.value, expected)) return;
-        tally.balance.out(key, expected);
+    void delete_if(uint64_t place) {
+        const regnubas_value expected = expect(place);
+        const auto old = tell(DELETE_IF, place, [&](regnubas_pass *by, uint64_t key) {
+            return regnubas_delete_if(by, key, expected);
+        });
+        if (old.status == REGNUBAS_SOME && same(old.value, expected)) take_out(key_at(place, keys), expected);
     }
 
     template <typename Take> void pop(Figure kind, Take take) {
         regnubas_pair pair = {};
         if (ask(kind, [&] { return take(pass(), &pair); }) != REGNUBAS_SOME) return;
-        demand(fits(pair.key, pair.value), NAMES[kind], pair.key);
-        tally.balance.out(pair.key, pair.value);
+        see(pair.key, pair.value);
+        take_out(pair.key, pair.value);
     }
 
     template <typename Find> void find(Figure kind, uint64_t key, Find find) {
         regnubas_pair pair = {};
         if (ask(kind, [&] { return find(pass(), key, &pair); }) != REGNUBAS_SOME) return;
         demand(kind == SUCCESSOR ? pair.key > key : pair.key < key, NAMES[kind], pair.key);
-        demand(fits(pair.key, pair.value), NAMES[kind], pair.key);
+        see(pair.key, pair.value);
     }
 
-    // Puts in the first pairs between two keys; how many, and the key of the last.
+    // Adds up the first pairs between two keys; how many, and the key of the last.
     uint64_t range(Balance &found, uint64_t low, uint64_t high, uint64_t most, uint64_t *last) {
         regnubas_pair pairs[64] = {};
         const auto told = ask(RANGE, [&] { return regnubas_range(pass(), low, high, pairs, most); });
         if (told.status > REGNUBAS_SOME) return 0;
         if (!demand(told.status == REGNUBAS_SOME && told.pairs <= most, "a range's number", told.pairs)) return 0;
-        put_in(found, pairs, told.pairs, low, high);
-        if (told.pairs > 0) *last = pairs[told.pairs - 1].key;
+        add_up(found, pairs, told.pairs, low, high);
+        for (uint64_t i = 0; i < told.pairs; i++) see(*last = pairs[i].key, pairs[i].value);
         return told.pairs;
     }
 
     void draw_range() {
         Balance found;
         uint64_t last = 0;
-        const uint64_t low = draw_key(), high = draw_key();
+        const uint64_t low = key_at(draw_place(), keys), high = key_at(draw_place(), keys);
         range(found, low, high, draws.below(65), &last);
     }
 
@@ -394,20 +445,20 @@ class Worker {
 
     void call() {
         const Figure kind = draw_kind();
-        const uint64_t key = mood == IN_ORDER && kind == INSERT_NEW ? next_key() : draw_key();
+        const uint64_t place = mood == IN_ORDER && kind == INSERT_NEW ? next++ % keys : draw_place();
         const bool pops = all.options.pops != 0;
         switch (kind) {
-            case INSERT: return insert(key);
-            case INSERT_NEW: return insert_new(key);
-            case REPLACE_IF: return replace_if(key);
-            case DELETE: return take(key);
-            case DELETE_IF: return delete_if(key);
-            case POP_FIRST: return pops ? pop(kind, regnubas_pop_first) : take(key);
-            case POP_LAST: return pops ? pop(kind, regnubas_pop_last) : take(key);
-            case SUCCESSOR: return find(kind, key, regnubas_successor);
-            case PREDECESSOR: return find(kind, key, regnubas_predecessor);
+            case INSERT: return insert(may_set(place));
+            case INSERT_NEW: return insert_new(may_set(place));
+            case REPLACE_IF: return replace_if(may_set(place));
+            case DELETE: return take(place);
+            case DELETE_IF: return delete_if(place);
+            case POP_FIRST: return pops ? pop(kind, regnubas_pop_first) : take(place);
+            case POP_LAST: return pops ? pop(kind, regnubas_pop_last) : take(place);
+            case SUCCESSOR: return find(kind, key_at(place, keys), regnubas_successor);
+            case PREDECESSOR: return find(kind, key_at(place, keys), regnubas_predecessor);
             case RANGE: return draw_range();
-            default: get(key);
+            default: get(place);
         }
     }
 
@@ -422,10 +473,9 @@ class Worker {
     // The same, by asking for each key.
     Balance each_key() {
         Balance found;
-        for (uint64_t i = 0; i < all.options.keys; i++) {
-            const uint64_t key = key_at(i, all.options.keys);
-            const regnubas_answer answer = get(key);
-            if (answer.status == REGNUBAS_SOME) found.in(key, answer.value);
+        for (uint64_t place = 0; place < keys; place++) {
+            const regnubas_answer answer = get(place);
+            if (answer.status == REGNUBAS_SOME) found.in(key_at(place, keys), answer.value);
         }
         return found;
     }
@@ -444,7 +494,7 @@ class Worker {
     bool meet() {
         go_away();
         const bool more = all.meeting.attend([&] { take_stock(); });
-        place = (place + 1) % all.options.threads;
+        seat = (seat + 1) % all.options.threads;
         come_back();
         mood = Mood((all.meetings + draws.below(2)) % MOODS);
         return more;
@@ -510,7 +560,7 @@ std::vector<regnubas_pair> end(Shared &all) {
 void compare_end(Shared &all) {
     Balance found;
     const std::vector<regnubas_pair> pairs = end(all);
-    put_in(found, pairs.data(), pairs.size(), 0, UINT64_MAX);
+    add_up(found, pairs.data(), pairs.size(), 0, UINT64_MAX);
     all.compare(found);
 }
 
