@@ -546,7 +546,7 @@ uint64_t keep_time(Shared &all) {
 
 // All passes end the dictionary, or the last of them: the pairs that are left.
 std::vector<regnubas_pair> end(Shared &all) {
-    std::vector<regnubas_pair> pairs(all.options.threads * all.options.nodes);
+    std::vector<regnubas_pair> pairs(2 * all.options.threads * all.options.nodes + 1);
     const bool at_once = all.options.seed % 2 != 0;
     for (uint64_t i = 1; i < all.passes.size() && !at_once; i++) regnubas_leave(&all.passes[i]);
     const regnubas_count count =
