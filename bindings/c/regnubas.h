@@ -170,9 +170,10 @@ regnubas_share regnubas_left(regnubas_pass *pass);
 void regnubas_leave(regnubas_pass *pass);
 
 /* Ends the dictionary, once all other passes have left, and writes its first pairs, `count` at the
- * most; room for passes * nodes and the pairs that it began with is room for all. What other passes
- * had put in before they left is among them, where no later call has changed it. SOME with the number
- * of all its pairs; SHARED: the pass is as it was; NO_MEMORY: the dictionary is gone. */
+ * most; room for passes * nodes and the pairs that it began with is room for all, and where it lasts
+ * for twice as many as nodes, since a leaf has up to four. What other passes had put in before they
+ * left is among them, where no later call has changed it. SOME with the number of all its pairs;
+ * SHARED: the pass is as it was; NO_MEMORY: the dictionary is gone. */
 regnubas_count regnubas_close(regnubas_pass *pass, regnubas_pair *pairs, size_t count);
 
 /* Ends a dictionary by all its passes at once, in any order, and writes its first pairs, `count` at
@@ -186,10 +187,11 @@ regnubas_count regnubas_end(regnubas_pass *passes, size_t passes_count, regnubas
                             size_t count);
 
 /* The same, and all its pairs begin the next dictionary, of the same shape, with as many passes,
- * which are put in the place of these; the next does not last, also where this one did. SOME with the number of all its pairs. LIMITS, NO_PASS or
- * SHARED: the passes are as they were. TOO_MANY or NO_MEMORY: the passes are empty, and the pairs
- * have been written, `count` at the most, for regnubas_make_of_pairs with other limits, or later; but
- * NO_MEMORY with no pairs may also mean that the dictionary is gone, as in regnubas_end. */
+ * which are put in the place of these; the next does not last, also where this one did. SOME with the
+ * number of all its pairs. LIMITS, NO_PASS or SHARED: the passes are as they were. TOO_MANY or
+ * NO_MEMORY: the passes are empty, and the pairs have been written, `count` at the most, for
+ * regnubas_make_of_pairs with other limits, or later; but NO_MEMORY with no pairs may also mean that
+ * the dictionary is gone, as in regnubas_end. */
 regnubas_count regnubas_renew(regnubas_limits each, regnubas_pass *passes, size_t passes_count,
                               regnubas_pair *pairs, size_t count);
 

@@ -395,6 +395,21 @@ void one_that_lasts(decltype(regnubas_make) make) {
     regnubas_leave(&passes[0]);
 }
 
+// A leaf of four pairs is one node, and what it replaced comes back: so there are more pairs than nodes.
+void more_pairs_than_nodes(decltype(regnubas_make) make, std::vector<uint64_t> keys) {
+    regnubas_pass pass = {};
+    std::vector<regnubas_pair> pairs(2 * 9);
+    uint32_t other = 9;
+    CHECK(make(regnubas_limits{9, 64, 1}, &pass, 1) == REGNUBAS_NONE);
+    for (uint64_t key : keys) {
+        CHECK(is(regnubas_insert(&pass, key, value_of(key)), REGNUBAS_NONE, ZERO));
+        for (int i = 0; i < 4; i++) CHECK(regnubas_rest(&pass, &other) == REGNUBAS_NONE);
+    }
+    CHECK(is(regnubas_close(&pass, pairs.data(), pairs.size()), REGNUBAS_SOME, keys.size()));
+    std::sort(keys.begin(), keys.end());
+    for (uint64_t i = 0; i < keys.size(); i++) CHECK(has(pairs[i], keys[i], value_of(keys[i])));
+}
+
 } // namespace
 
 int main(int argc, char **argv) {
@@ -410,6 +425,8 @@ int main(int argc, char **argv) {
     renewals(regnubas_make_trie, 2);
     one_that_lasts(regnubas_make_lasting);
     one_that_lasts(regnubas_make_lasting_trie);
+    more_pairs_than_nodes(regnubas_make_lasting, {0, 8, 16, 24, 32, 1, 2, 17, 40, 18, 19, 25});
+    more_pairs_than_nodes(regnubas_make_lasting_trie, {0, 1, 2, 3, 4, 5, 6, 7, 8, 9, 10, 11});
     for (int rounds = argc > 1 ? std::atoi(argv[1]) : 1; rounds > 0; rounds--) {
         keys_and_counter(regnubas_make, close_all);
         keys_and_counter(regnubas_make_trie, end_all);

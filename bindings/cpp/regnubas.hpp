@@ -160,10 +160,10 @@ public:
     }
 
     // One that lasts: what its passes have used up comes back to them as they rest, so `each` is of
-    // what is in use at a time.
+    // what is in use at a time. Its leaves may all have four pairs: up to two for each node.
     static result<std::vector<pass>> try_make_lasting(std::size_t count, regnubas_limits each,
                                                       shape is = shape::tree) {
-        return made(count, count * each.nodes, is, [=](regnubas_pass *raw) {
+        return made(count, 2 * count * each.nodes, is, [=](regnubas_pass *raw) {
             return (is == shape::trie ? regnubas_make_lasting_trie : regnubas_make_lasting)(each, raw, count);
         });
     }

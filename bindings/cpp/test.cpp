@@ -207,6 +207,16 @@ void one_that_lasts(regnubas::shape is) {
     CHECK(!other[0].away() && !other[0].back() && !other[0].rest() && !other[0].insert(5, 50));
 }
 
+// A leaf of four pairs is one node, and what it replaced comes back.
+void more_pairs_than_nodes(regnubas::shape is, const std::vector<regnubas::key> &keys) {
+    auto passes = pass::make_lasting(1, {9, 64, 1}, is);
+    for (regnubas::key k : keys) {
+        CHECK(!passes[0].insert(k, k));
+        for (int i = 0; i < 4; i++) passes[0].rest();
+    }
+    CHECK(passes[0].close().size() == keys.size());
+}
+
 } // namespace
 
 int main() {
@@ -226,5 +236,7 @@ int main() {
         it_is_renewed(is);
         one_that_lasts(is);
     }
+    more_pairs_than_nodes(regnubas::shape::tree, {0, 8, 16, 24, 32, 1, 2, 17, 40, 18, 19, 25});
+    more_pairs_than_nodes(regnubas::shape::trie, {0, 1, 2, 3, 4, 5, 6, 7, 8, 9, 10, 11});
     std::puts("each call, each refusal, ranges, limits, four threads, pairs to begin with, ten renewals, one that lasts");
 }

@@ -317,6 +317,17 @@ def test_one_that_lasts():
     assert one.rest() is None
 
 
+def test_more_pairs_than_nodes():
+    """A leaf of four pairs is one node, and what it replaced comes back."""
+    for keys in [0, 8, 16, 24, 32, 1, 2, 17, 40, 18, 19, 25], list(range(12)):
+        [one] = regnubas.make(threads=1, nodes=9, scx=64, trie=keys[1] == 1, lasting=True)
+        for key in keys:
+            one[key] = 50
+            for _ in range(4):
+                one.rest()
+        assert one.close() == [(key, 50) for key in sorted(keys)]
+
+
 def test_threads_may_share_a_pass():
     """Eight threads of Python add up in one key, with two passes: four take turns on each."""
     passes = regnubas.make(threads=2, changes=8000, new_keys=200)

@@ -42,7 +42,8 @@ class Pass(MutableMapping[int, int]):
     one at the end of its `with`."""
 
     def __init__(self, most: int, trie: bool) -> None:
-        # `most`: the pairs that the dictionary may have, since a new key takes a node at least
+        # `most`: the pairs that the dictionary may have, since a new key takes a node at least; in one
+        # that lasts a node comes back, and a leaf of one may have four pairs
         self._raw, self._most, self._trie, self._lock = RawPass(), most, trie, threading.Lock()
 
     def _call(self, call: Callable[..., Any], *arguments: Any) -> Any:
@@ -421,7 +422,7 @@ def _lasting(threads: int, each: RawLimits, trie: bool) -> list[Pass]:
     begin = library.regnubas_make_lasting_trie if trie else library.regnubas_make_lasting
     raw = (RawPass * threads)()
     is_some(begin(each, raw, threads))
-    return _passes_of(raw, threads * each.nodes, trie)
+    return _passes_of(raw, 2 * threads * each.nodes, trie)
 
 
 def _passes_of(raw: Array[RawPass], most: int, trie: bool) -> list[Pass]:

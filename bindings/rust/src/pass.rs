@@ -21,7 +21,8 @@ pub(crate) const MOST_LISTED: usize = 64;
 /// ```
 pub struct Pass {
     raw: RawPass,
-    /// The most pairs that the dictionary may have: a new key takes a node at least.
+    /// The most pairs that the dictionary may have: a new key takes a node at least; in one that
+    /// lasts a node comes back, and a leaf of one may have four pairs.
     most: usize,
     trie: bool,
 }
@@ -103,7 +104,7 @@ fn lasting(passes: usize, each: Limits, trie: bool) -> Result<Vec<Pass>, Fault> 
     let mut raw: Vec<RawPass> = (0..passes).map(|_| RawPass::EMPTY).collect();
     // SAFETY: these are `passes` zeroed passes, and no one else has them.
     is_some(unsafe { make(each, raw.as_mut_ptr(), raw.len()) })?;
-    let most = passes * each.nodes as usize;
+    let most = 2 * passes * each.nodes as usize;
     Ok(raw.into_iter().map(|raw| Pass { raw, most, trie }).collect())
 }
 
