@@ -1,18 +1,16 @@
 //! What is asked of an SCX-record that begins, which is where its first node is frozen for it.
-use crate::breach::{Objection, demand, object};
+use crate::breach::Objection;
 use crate::lines_before::LinesBefore;
+use crate::parts::Part::{Client, Named, Node, Number, Scx};
 use crate::steps::{AFTER, CLIENT};
 use arena::{Kind, NodeNo, NodeWord, Row, ScxNo, ScxWord, Side, Word};
-use report::word_text;
 
 /// The conditions of a beginning, one after another.
 pub(crate) fn check_beginning(before: &LinesBefore<'_>, row: &Row) -> Result<(), Objection> {
-    let (alloc, scx) = (before.alloc, row.after);
-    let fault = format!(in alloc;
-        "client {} does not own s{scx}, so it does not begin it",
-        row.pass.0
-    );
-    demand(before.owns_scx(row.pass, scx), CLIENT, fault)?;
+    let scx = row.after;
+    let text = "# does not own #, so it does not begin it";
+    let parts = [Client(row.pass), Scx(scx)];
+    before.demand(before.owns_scx(row.pass, scx), CLIENT, text, &parts)?;
     check_plan(before, scx)?;
     for place in 0..before.plan(scx).count() {
         check_node(before, scx, place)?;
@@ -22,46 +20,66 @@ pub(crate) fn check_beginning(before: &LinesBefore<'_>, row: &Row) -> Result<(),
 }
 
 fn check_plan(before: &LinesBefore<'_>, scx: u64) -> Result<(), Objection> {
-    let (alloc, plan) = (before.alloc, before.plan(scx));
-    let fault = format!(in alloc;
-        "the plan of s{scx} is {}, in place of one of 1 to 4 nodes, with those to finalize and the field's \
-     among them",
-        plan.0
-    );
-    demand(plan.is_valid(), AFTER, fault)
+    let plan = before.plan(scx);
+    let text = "the plan of # is #, in place of one of 1 to 4 nodes, with those to finalize and \
+        the field's among them";
+    before.demand(plan.is_valid(), AFTER, text, &[Scx(scx), Number(plan.0)])
 }
 
 /// A node that it covers is in the table, differs from the earlier ones, and is at rest.
 fn check_node(before: &LinesBefore<'_>, scx: u64, place: u8) -> Result<(), Objection> {
-    let (alloc, node) = (before.alloc, before.member(scx, place));
-    let fault = format!(in alloc; "v{place} of s{scx} is {node}, and there is no such node");
+    let node = before.member(scx, place);
+    let text = "v# of # is #, and there is no such node";
     let nodes = u64::from(before.judge.layout().all_nodes());
-    demand(node < nodes, AFTER, fault)?;
-    let fault = format!(in alloc; "s{scx} covers n{node} twice");
-    demand(before.place_of(scx, node) == Some(place), AFTER, fault)?;
+    let parts = [Number(u64::from(place)), Scx(scx), Number(node)];
+    before.demand(node < nodes, AFTER, text, &parts)?;
+    let text = "# covers # twice";
+    let parts = [Scx(scx), Node(node)];
+    before.demand(
+        before.place_of(scx, node) == Some(place),
+        AFTER,
+        text,
+        &parts,
+    )?;
     check_at_rest(before, scx, place)
 }
 
 /// What the node's info was is finished, and if it still is, the node is not marked.
 fn check_at_rest(before: &LinesBefore<'_>, scx: u64, place: u8) -> Result<(), Objection> {
-    let (alloc, node) = (before.alloc, before.member(scx, place));
+    let (node, number) = (before.member(scx, place), Number(u64::from(place)));
     let seen = before.scx_word(scx, ScxWord::Seen(place));
-    let fault = format!(in alloc; "i{place} of s{scx} is s{seen}, which is in progress");
-    demand(before.scx_word(seen, ScxWord::State) != 0, AFTER, fault)?;
+    let text = "i# of # is #, which is in progress";
+    let parts = [number, Scx(scx), Scx(seen)];
+    before.demand(
+        before.scx_word(seen, ScxWord::State) != 0,
+        AFTER,
+        text,
+        &parts,
+    )?;
     let is_marked = before.node_word(node, NodeWord::Marked) != 0;
-    let fault = format!(in alloc; "n{node} is marked, and its info is still i{place} of s{scx}");
-    demand(!before.is_as_seen(scx, place) || !is_marked, AFTER, fault)
+    let text = "# is marked, and its info is still i# of #";
+    let parts = [Node(node), number, Scx(scx)];
+    before.demand(
+        !before.is_as_seen(scx, place) || !is_marked,
+        AFTER,
+        text,
+        &parts,
+    )
 }
 
 /// If the field's node is as it was seen, the field still holds `old`.
 fn check_field(before: &LinesBefore<'_>, scx: u64) -> Result<(), Objection> {
-    let alloc = before.alloc;
     let at = before.plan(scx).at().number();
     let field = field_of(before, scx);
     let (held, old) = (before.judge.get(field), before.scx_word(scx, ScxWord::Old));
-    let name = word_text(alloc, field)?;
-    let fault = format!(in alloc; "{name} holds {held}, in place of {old}, the word old of s{scx}");
-    demand(!before.is_as_seen(scx, at) || held == old, AFTER, fault)
+    let text = "# holds #, in place of #, the word old of #";
+    let parts = [Named(field), Number(held), Number(old), Scx(scx)];
+    before.demand(
+        !before.is_as_seen(scx, at) || held == old,
+        AFTER,
+        text,
+        &parts,
+    )
 }
 
 /// The field that an SCX-record changes.
@@ -74,37 +92,35 @@ pub(crate) fn field_of(before: &LinesBefore<'_>, scx: u64) -> Word {
 
 /// `new` is a node of the owner's share that no field and no other SCX-record's `new` has held.
 fn check_new(before: &LinesBefore<'_>, row: &Row) -> Result<(), Objection> {
-    let (alloc, scx) = (before.alloc, row.after);
+    let scx = row.after;
     let new = before.scx_word(scx, ScxWord::New);
-    let fault = format!(in alloc;
-        "new of s{scx} is n{new}, which is not of client {}'s share",
-        row.pass.0
-    );
-    demand(before.owns_node(row.pass, new), AFTER, fault)?;
-    let fault = format!(in alloc; "new of s{scx} is n{new}, which a field has held already");
-    demand(!before.judge.is_in_field(NodeNo(new)), AFTER, fault)?;
+    let text = "new of # is #, which is not of #'s share";
+    let parts = [Scx(scx), Node(new), Client(row.pass)];
+    before.demand(before.owns_node(row.pass, new), AFTER, text, &parts)?;
+    let text = "new of # is #, which a field has held already";
+    let parts = [Scx(scx), Node(new)];
+    before.demand(!before.judge.is_in_field(NodeNo(new)), AFTER, text, &parts)?;
     check_unused(before, scx, new)
 }
 
 fn check_unused(before: &LinesBefore<'_>, scx: u64, new: u64) -> Result<(), Objection> {
-    let alloc = before.alloc;
-    match other_user(before, ScxNo(scx), new) {
-        Some(other) => Err(object(
-            AFTER,
-            format!(in alloc;
-                "new of s{scx} is n{new}, which new of s{} has held already",
-                other.0
-            ),
-        )),
-        None => Ok(()),
-    }
+    let Some(other) = other_user(before, ScxNo(scx), new) else {
+        return Ok(());
+    };
+    let text = "new of # is #, which new of # has held already";
+    Err(before.object(AFTER, text, &[Scx(scx), Node(new), Scx(other.0)]))
 }
 
 /// Another SCX-record whose `new` has held a node.
 fn other_user(before: &LinesBefore<'_>, user: ScxNo, new: u64) -> Option<ScxNo> {
-    before.rows.iter().find_map(|row| match row.word {
-        Word::Scx(scx, ScxWord::New) if row.kind == Kind::Fill && row.after == new && scx != user =>
-            Some(scx),
-        _ => None,
-    })
+    for row in before.rows.iter() {
+        if let Word::Scx(scx, ScxWord::New) = row.word
+            && row.kind == Kind::Fill
+            && row.after == new
+            && scx != user
+        {
+            return Some(scx);
+        }
+    }
+    None
 }

@@ -1,6 +1,7 @@
 //! SCX-records that were in the way of a call.
-use crate::breach::{Objection, demand, object};
+use crate::breach::Objection;
 use crate::lines_before::LinesBefore;
+use crate::parts::Part::{Node, Scx, Text};
 use crate::replies::ANSWER;
 use crate::words::name_of;
 use arena::{Kind, NodeNo, NodeWord, ScxNo, ScxWord, Word};
@@ -13,15 +14,22 @@ pub(crate) fn check_blame(
     node: NodeNo,
     scx: ScxNo,
 ) -> Result<(), Objection> {
-    let (alloc, scx, node) = (before.alloc, scx.0, node.0);
-    let owner = before.judge.layout().owner(ScxNo(scx));
-    let fault = format!(in alloc; "s{scx} is not of another client's share");
-    let is_another = owner.is_some_and(|owner| owner != reply.client);
-    demand(is_another, ANSWER, fault)?;
-    let fault = format!(in alloc; "s{scx} does not cover n{node}");
-    demand(before.place_of(scx, node).is_some(), ANSWER, fault)?;
-    let fault = format!(in alloc; "s{scx} has not begun, so it was in nobody's way");
-    demand(before.was_frozen(before.member(scx, 0), scx), ANSWER, fault)
+    let owner = before.judge.layout().owner(scx);
+    let (scx, node) = (scx.0, node.0);
+    let text = "# is not of another client's share";
+    let is_another = owner.is_some() && owner != Some(reply.client);
+    before.demand(is_another, ANSWER, text, &[Scx(scx)])?;
+    let text = "# does not cover #";
+    let parts = [Scx(scx), Node(node)];
+    before.demand(before.place_of(scx, node).is_some(), ANSWER, text, &parts)?;
+    let text = "# has not begun, so it was in nobody's way";
+    let parts = [Scx(scx)];
+    before.demand(
+        before.was_frozen(before.member(scx, 0), scx),
+        ANSWER,
+        text,
+        &parts,
+    )
 }
 
 /// The SCX-record was in progress after more than so many steps, which are those before something.
@@ -31,9 +39,9 @@ pub(crate) fn check_since(
     steps: usize,
     what: &str,
 ) -> Result<(), Objection> {
-    let (alloc, until) = (before.alloc, before.in_progress_until(scx));
-    let fault = format!(in alloc; "s{} was finished before {what}", scx.0);
-    demand(steps < until, ANSWER, fault)
+    let until = before.in_progress_until(scx);
+    let text = "# was finished before #";
+    before.demand(steps < until, ANSWER, text, &[Scx(scx.0), Text(what)])
 }
 
 /// The last step of this kind that the call has made has found the SCX-record in the node's info.
@@ -43,17 +51,14 @@ pub(crate) fn check_found(
     kind: Kind,
     blamed: (NodeNo, ScxNo),
 ) -> Result<(), Objection> {
-    let (alloc, name, (node, scx)) = (before.alloc, name_of(kind), blamed);
+    let (name, (node, scx)) = (Text(name_of(kind)), blamed);
     let Some(row) = before.last_of(reply.client, kind) else {
-        let fault = format!(in alloc; "the call has made no step of kind {name}");
-        return Err(object(ANSWER, fault));
+        let text = "the call has made no step of kind #";
+        return Err(before.object(ANSWER, text, &[name]));
     };
-    let fault = format!(in alloc;
-        "the last {name} of the call has not found s{} in the info of n{}",
-        scx.0, node.0
-    );
+    let text = "the last # of the call has not found # in the info of #";
     let is_found = row.word == Word::Node(node, NodeWord::Info) && row.before == scx.0;
-    demand(is_found, ANSWER, fault)
+    before.demand(is_found, ANSWER, text, &[name, Scx(scx.0), Node(node.0)])
 }
 
 /// An LLX has failed: what it has found in its cell's info is finished, and was in progress since
@@ -63,18 +68,20 @@ pub(crate) fn check_failed(
     reply: &Finished,
     blamed: (NodeNo, ScxNo),
 ) -> Result<(), Objection> {
-    let (alloc, (node, scx)) = (before.alloc, blamed);
+    let (node, scx) = blamed;
     check_found(before, reply, Kind::LoadInfo, blamed)?;
-    check_since(
-        before,
-        scx,
-        before.client(reply.client).first,
-        "the call began",
+    let first = before.client(reply.client).first;
+    check_since(before, scx, first, "the call began")?;
+    let text = "# is in progress, and the call has not helped it";
+    let parts = [Scx(scx.0)];
+    before.demand(
+        before.scx_word(scx.0, ScxWord::State) != 0,
+        ANSWER,
+        text,
+        &parts,
     )?;
-    let fault = format!(in alloc; "s{} is in progress, and the call has not helped it", scx.0);
-    demand(before.scx_word(scx.0, ScxWord::State) != 0, ANSWER, fault)?;
-    let fault = format!(in alloc; "n{} was final when the call began", node.0);
-    Err(object(ANSWER, fault))
+    let text = "# was final when the call began";
+    Err(before.object(ANSWER, text, &[Node(node.0)]))
 }
 
 /// An SCX is lost, or a VLX has found a change: it has met this SCX-record since its snapshot. This is
@@ -85,11 +92,9 @@ pub(crate) fn check_met(
     kind: Kind,
     blamed: (NodeNo, ScxNo),
 ) -> Result<(), Objection> {
-    let (alloc, (node, scx)) = (before.alloc, blamed);
+    let (node, scx) = blamed;
     check_found(before, reply, kind, blamed)?;
-    let fault = format!(in alloc;
-        "s{} was not in progress over n{} since the snapshot of that, or an earlier cell had changed",
-        scx.0, node.0
-    );
-    Err(object(ANSWER, fault))
+    let text = "# was not in progress over # since the snapshot of that, or an earlier cell had \
+        changed";
+    Err(before.object(ANSWER, text, &[Scx(scx.0), Node(node.0)]))
 }

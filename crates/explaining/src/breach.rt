@@ -11,7 +11,7 @@ pub struct Breach {
 }
 
 /// Why no further condition is asked.
-#[derive(Debug, Drop)]
+#[derive(Drop)]
 pub(crate) enum Objection {
     /// An allocation was refused.
     NoMemory,
@@ -29,24 +29,4 @@ impl From<NoMemory> for Objection {
     fn from(_error: NoMemory) -> Objection {
         Objection::NoMemory
     }
-}
-
-/// Objects to a field of a line, in these words.
-pub(crate) fn object(field: usize, text: Result<String, AllocError>) -> Objection {
-    match text {
-        Ok(text) => Objection::Breaks(Breach { field, text }),
-        Err(AllocError) => Objection::NoMemory,
-    }
-}
-
-/// The same, unless this holds of it.
-pub(crate) fn demand(
-    fits: bool,
-    field: usize,
-    text: Result<String, AllocError>,
-) -> Result<(), Objection> {
-    if fits {
-        return Ok(());
-    }
-    Err(object(field, text))
 }

@@ -1,8 +1,9 @@
 //! Answers of calls of cells.
 use crate::blame::{check_blame, check_failed, check_met};
-use crate::breach::{Objection, demand, object};
+use crate::breach::Objection;
 use crate::lines_before::LinesBefore;
 use crate::map_answers::{check_left, check_moment_is, check_no_moment};
+use crate::parts::Part::{Node, Number};
 use crate::replies::ANSWER;
 use arena::{Full, Kind, NodeNo, NodeWord, PassNo, ScxNo, Side};
 use record::{Answer, Finished};
@@ -36,7 +37,7 @@ fn check_at_end(before: &LinesBefore<'_>, reply: &Finished) -> Result<(), Object
 
 /// An objection to the answer, in words that name nothing.
 fn object_to_answer(before: &LinesBefore<'_>, text: &str) -> Objection {
-    object(ANSWER, String::from_str(before.alloc, text))
+    before.object(ANSWER, text, &[])
 }
 
 /// All cells were as their snapshots found them. That is asked last, so it is what is broken.
@@ -70,24 +71,28 @@ fn check_snapshot(
     left: NodeNo,
     right: NodeNo,
 ) -> Result<(), Objection> {
-    let (alloc, cell) = (before.alloc, cell_of(command));
-    let fault = format!(in alloc; "n{} is final, so there is no snapshot of it", cell.0);
-    demand(!before.judge.is_final(cell), ANSWER, fault)?;
+    let cell = cell_of(command);
+    let text = "# is final, so there is no snapshot of it";
+    before.demand(!before.judge.is_final(cell), ANSWER, text, &[Node(cell.0)])?;
     let held = (
         before.node_word(cell.0, NodeWord::Child(Side::Left)),
         before.node_word(cell.0, NodeWord::Child(Side::Right)),
     );
-    let fault = format!(in alloc;
-        "snap {} {} in place of snap {} {}, the fields of n{}",
-        left.0, right.0, held.0, held.1, cell.0
-    );
-    demand(held == (left.0, right.0), ANSWER, fault)
+    let text = "snap # # in place of snap # #, the fields of #";
+    let parts = [
+        Number(left.0),
+        Number(right.0),
+        Number(held.0),
+        Number(held.1),
+        Node(cell.0),
+    ];
+    before.demand(held == (left.0, right.0), ANSWER, text, &parts)
 }
 
 fn check_final(before: &LinesBefore<'_>, command: &Command) -> Result<(), Objection> {
-    let (alloc, cell) = (before.alloc, cell_of(command));
-    let fault = format!(in alloc; "n{} is not final: no entry finalizes it", cell.0);
-    demand(before.judge.is_final(cell), ANSWER, fault)
+    let cell = cell_of(command);
+    let text = "# is not final: no entry finalizes it";
+    before.demand(before.judge.is_final(cell), ANSWER, text, &[Node(cell.0)])
 }
 
 /// A call that says nothing of its cells has no moment, and says why.
@@ -136,24 +141,19 @@ fn check_full(before: &LinesBefore<'_>, pass: PassNo, full: &Full) -> Result<(),
 
 /// A cell without a snapshot. That it is the first is asked last, so it is what is broken.
 fn check_unlinked(before: &LinesBefore<'_>, node: NodeNo) -> Result<(), Objection> {
-    let alloc = before.alloc;
-    let fault = format!(in alloc;
-        "n{} is not the first cell of the call without a kept snapshot",
-        node.0
-    );
-    Err(object(ANSWER, fault))
+    let text = "# is not the first cell of the call without a kept snapshot";
+    Err(before.object(ANSWER, text, &[Node(node.0)]))
 }
 
 /// The node is a cell of the call.
 fn check_among(before: &LinesBefore<'_>, command: &Command, node: NodeNo) -> Result<(), Objection> {
-    let alloc = before.alloc;
     let is_among = match command {
         Command::Scx(update) => has_cell(update.cells(), node),
         Command::Vlx { cells } => has_cell(cells.as_slice(), node),
         _ => cell_of(command) == node,
     };
-    let fault = format!(in alloc; "n{} is no cell of the call", node.0);
-    demand(is_among, ANSWER, fault)
+    let text = "# is no cell of the call";
+    before.demand(is_among, ANSWER, text, &[Node(node.0)])
 }
 
 fn has_cell(cells: &[Cell], node: NodeNo) -> bool {

@@ -1,9 +1,9 @@
 //! Entries of calls of cells.
 use crate::begins::field_of;
-use crate::breach::{Objection, demand, object};
+use crate::breach::Objection;
 use crate::lines_before::LinesBefore;
+use crate::parts::Part::{Call, Node, Number, Scx};
 use crate::stores::finalizes;
-use crate::words::call_words;
 use arena::{NodeWord, ScxWord, SettledPart, Side, Slot, Word};
 use record::Entry;
 use script::{Cell, Command};
@@ -13,8 +13,7 @@ const SCX: usize = 3;
 /// It covers and finalizes what the script says, and puts a fresh cell of the script's value into
 /// the script's field. What is asked last is that each cell is as its snapshot found it.
 pub(crate) fn check_cell_entry(before: &LinesBefore<'_>, entry: &Entry) -> Result<(), Objection> {
-    let (alloc, scx) = (before.alloc, entry.scx.0);
-    let call = call_words(before, entry.client)?;
+    let call = Call(entry.client);
     match before.next(entry.client) {
         Some(Command::Scx(update)) => {
             check_cells(before, entry, update.cells(), update.finalize())?;
@@ -24,12 +23,10 @@ pub(crate) fn check_cell_entry(before: &LinesBefore<'_>, entry: &Entry) -> Resul
             check_cells(before, entry, &[field.0], &[])?;
             check_put(before, entry, field, value)?;
         }
-        _ => return Err(object(SCX, format!(in alloc; "{call}, makes no entry"))),
+        _ => return Err(before.object(SCX, "#, makes no entry", &[call])),
     }
-    let fault = format!(in alloc;
-        "s{scx} wins for {call}, though a cell has changed since its snapshot, or is final"
-    );
-    Err(object(SCX, fault))
+    let text = "# wins for #, though a cell has changed since its snapshot, or is final";
+    Err(before.object(SCX, text, &[Scx(entry.scx.0), call]))
 }
 
 /// It covers these cells, and finalizes those.
@@ -39,8 +36,7 @@ fn check_cells(
     cells: &[Cell],
     finalized: &[Cell],
 ) -> Result<(), Objection> {
-    let (alloc, scx) = (before.alloc, entry.scx.0);
-    let call = call_words(before, entry.client)?;
+    let (scx, call) = (entry.scx.0, Call(entry.client));
     let count = usize::from(before.plan(scx).count());
     let mut covers = count == cells.len();
     let mut keeps = true;
@@ -48,10 +44,10 @@ fn check_cells(
         covers = covers && before.member(scx, place) == cell.node().0;
         keeps = keeps && finalizes(before, scx, place) == finalized.contains(cell);
     }
-    let fault = format!(in alloc; "s{scx} covers other cells than {call}");
-    demand(covers, SCX, fault)?;
-    let fault = format!(in alloc; "s{scx} finalizes other cells than {call}");
-    demand(keeps, SCX, fault)
+    let text = "# covers other cells than #";
+    before.demand(covers, SCX, text, &[Scx(scx), call])?;
+    let text = "# finalizes other cells than #";
+    before.demand(keeps, SCX, text, &[Scx(scx), call])
 }
 
 /// It puts a fresh cell of this value into this field.
@@ -61,29 +57,26 @@ fn check_put(
     field: (Cell, Side),
     value: u64,
 ) -> Result<(), Objection> {
-    let (alloc, scx) = (before.alloc, entry.scx.0);
-    let call = call_words(before, entry.client)?;
-    let fault = format!(in alloc; "s{scx} changes another field than {call}");
+    let scx = entry.scx.0;
+    let text = "# changes another field than #";
     let (cell, side) = field;
     let wanted = Word::Node(cell.node(), NodeWord::Child(side));
-    demand(field_of(before, scx) == wanted, SCX, fault)?;
+    let parts = [Scx(scx), Call(entry.client)];
+    before.demand(field_of(before, scx) == wanted, SCX, text, &parts)?;
     let new = before.scx_word(scx, ScxWord::New);
     let stored = before.node_word(new, NodeWord::Settled(SettledPart::Value(Slot::First)));
-    let fault = format!(in alloc;
-        "n{new}, which s{scx} puts there, has the value {stored} in place of {value}"
-    );
-    demand(stored == value, SCX, fault)?;
+    let text = "#, which # puts there, has the value # in place of #";
+    let parts = [Node(new), Scx(scx), Number(stored), Number(value)];
+    before.demand(stored == value, SCX, text, &parts)?;
     check_fresh(before, entry, new)
 }
 
 /// A fresh cell is of the client's share, and its fields are 0.
 fn check_fresh(before: &LinesBefore<'_>, entry: &Entry, new: u64) -> Result<(), Objection> {
-    let (alloc, is_own) = (before.alloc, before.owns_node(entry.client, new));
+    let is_own = before.owns_node(entry.client, new);
     let left = before.node_word(new, NodeWord::Child(Side::Left));
     let right = before.node_word(new, NodeWord::Child(Side::Right));
-    let fault = format!(in alloc;
-        "n{new}, which s{} puts there, is no cell of the client's share with two empty fields",
-        entry.scx.0
-    );
-    demand(is_own && left == 0 && right == 0, SCX, fault)
+    let text = "#, which # puts there, is no cell of the client's share with two empty fields";
+    let parts = [Node(new), Scx(entry.scx.0)];
+    before.demand(is_own && left == 0 && right == 0, SCX, text, &parts)
 }

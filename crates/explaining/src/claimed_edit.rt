@@ -1,21 +1,22 @@
 //! An SCX-record that begins for an edit of the map.
-use crate::breach::{Objection, demand};
+use crate::breach::Objection;
 use crate::lines_before::LinesBefore;
-use crate::map_before::MapPairs;
+use crate::map_before::{MapPairs, leave, value_of};
+use crate::parts::Part::{self, Call, Node, Number, Pairs, Scx, Text};
 use crate::steps::AFTER;
-use arena::{Head, Mode, NodeWord, ScxWord, SettledPart, Side, Slot};
+use arena::{Head, Mode, NodeWord, PassNo, ScxWord, SettledPart, Side, Slot};
 use ordered_map::{Goal, Rule, wide_value};
 use std::alloc::AllocError;
 
 const SLOTS: [Slot; 4] = [Slot::First, Slot::Second, Slot::Third, Slot::Fourth];
 
-/// The SCX-record, the call for which it begins, in words, and the edit of that: where it goes, by
-/// which rule, and at which key.
+/// The SCX-record, the client for whose next call it begins, and the edit of that: where it goes,
+/// by which rule, and at which key.
 #[derive(Drop)]
 pub(crate) struct ClaimedEdit<'a> {
     pub(crate) before: &'a LinesBefore<'a>,
     pub(crate) scx: u64,
-    pub(crate) call: String,
+    pub(crate) client: PassNo,
     pub(crate) goal: Goal,
     pub(crate) rule: Rule,
     pub(crate) key: u64,
@@ -26,74 +27,86 @@ impl ClaimedEdit<'_> {
     pub(crate) fn demand(
         &self,
         fits: bool,
-        text: Result<String, AllocError>,
+        words: &str,
+        parts: &[Part<'_>],
     ) -> Result<(), Objection> {
-        let (alloc, scx, text) = (self.before.alloc, self.scx, text?);
-        let call = self.call.as_str();
-        let fault = format!(in alloc; "s{scx} begins for {call}: {text}");
-        demand(fits, AFTER, fault)
+        if fits {
+            return Ok(());
+        }
+        let text = self.before.text_of(words, parts)?;
+        let parts = [Scx(self.scx), Call(self.client), Text(text.as_str())];
+        Err(self.before.object(AFTER, "# begins for #: #", &parts))
     }
 
     /// Its plan and its first node are as `check_field` says, and `old` is its second node.
     pub(crate) fn check_place(&self, left: u64, right: u64, does: &str) -> Result<(), Objection> {
         self.check_field(left, right, does)?;
-        let (alloc, second) = (self.before.alloc, self.member(1));
+        let second = self.member(1);
         let old = self.before.scx_word(self.scx, ScxWord::Old);
-        let fault = format!(in alloc; "its old is n{old} in place of n{second}, its second node");
-        self.demand(old == second, fault)
+        let text = "its old is # in place of #, its second node";
+        self.demand(old == second, text, &[Node(old), Node(second)])
     }
 
     /// Its plan is this one for an edit on the left of the first node, and that on the right, and
     /// the search for the key passes the first, which is a fork.
     pub(crate) fn check_field(&self, left: u64, right: u64, does: &str) -> Result<(), Objection> {
-        let (alloc, key, fork) = (self.before.alloc, self.key, self.member(0));
-        let fault = format!(in alloc; "the search for {key} does not pass n{fork}, its first node");
-        self.demand(self.is_on_path(key, fork), fault)?;
-        let fault = format!(in alloc; "n{fork}, its first node, is no fork");
-        self.demand(!self.head(fork).leaf, fault)?;
+        let (key, fork) = (self.key, self.member(0));
+        let text = "the search for # does not pass #, its first node";
+        self.demand(self.is_on_path(key, fork), text, &[Number(key), Node(fork)])?;
+        let text = "#, its first node, is no fork";
+        self.demand(!self.head(fork).leaf, text, &[Node(fork)])?;
+        match self.toward(fork, key) {
+            Side::Left => self.check_plan(left, does),
+            Side::Right => self.check_plan(right, does),
+        }
+    }
+
+    fn check_plan(&self, wanted: u64, does: &str) -> Result<(), Objection> {
         let plan = self.before.plan(self.scx).0;
-        let wanted = match self.toward(fork, key) {
-            Side::Left => left,
-            Side::Right => right,
-        };
-        let fault = format!(in alloc;
-            "its plan is {plan} in place of {wanted}, which {does} and changes the field of n{fork} towards {key}"
-        );
-        self.demand(plan == wanted, fault)
+        let text = "its plan is # in place of #, which # and changes the field of # towards #";
+        let parts = [
+            Number(plan),
+            Number(wanted),
+            Text(does),
+            Node(self.member(0)),
+            Number(self.key),
+        ];
+        self.demand(plan == wanted, text, &parts)
     }
 
     /// A node is a leaf, with at most four pairs if these are below all that is above all keys.
     pub(crate) fn check_leaf(&self, node: u64) -> Result<(), Objection> {
-        let (alloc, head) = (self.before.alloc, self.head(node));
+        let head = self.head(node);
         let many = self.settled(node, SettledPart::More).saturating_add(1);
-        self.demand(head.leaf, format!(in alloc; "n{node} is no leaf"))?;
-        let fault = format!(in alloc; "n{node} has {many} pairs, and a leaf has 4 at most");
-        self.demand(head.class > 0 || many <= 4, fault)
+        self.demand(head.leaf, "# is no leaf", &[Node(node)])?;
+        let text = "# has # pairs, and a leaf has 4 at most";
+        let parts = [Node(node), Number(many)];
+        self.demand(head.class > 0 || many <= 4, text, &parts)
     }
 
     /// A node is such a leaf, and is not above all keys.
     pub(crate) fn check_low_leaf(&self, node: u64) -> Result<(), Objection> {
-        let alloc = self.before.alloc;
         self.check_leaf(node)?;
-        let fault = format!(in alloc; "n{node} is above all keys, so it has no pairs");
-        self.demand(self.head(node).class == 0, fault)
+        let text = "# is above all keys, so it has no pairs";
+        self.demand(self.head(node).class == 0, text, &[Node(node)])
     }
 
     /// The leaf that the edit is of gives its call something to do; of the pair at an end it is the
     /// tree's leaf there, where it is as it was seen.
     pub(crate) fn check_asks(&self, leaf: u64) -> Result<(), Objection> {
-        let (alloc, held) = (self.before.alloc, self.pairs_of(leaf)?);
-        let found = held.iter().find(|pair| pair.0 == self.key);
-        let shown = self.words(&held)?;
-        let fault = format!(in alloc; "it has nothing to do at n{leaf}, which holds {shown}");
-        self.demand(self.rule.applies(found.map(|pair| pair.1)), fault)?;
+        let held = self.pairs_of(leaf)?;
+        let found = value_of(&held, self.key);
+        let text = "it has nothing to do at #, which holds #";
+        let parts = [Node(leaf), Pairs(&held)];
+        self.demand(self.rule.applies(found), text, &parts)?;
         let (end, bound) = match self.goal {
             Goal::Key(_) => return Ok(()),
             Goal::End(Side::Left) => ("first", 0),
             Goal::End(Side::Right) => ("last", u64::MAX),
         };
-        let fault = format!(in alloc; "n{leaf} is not the {end} leaf of the tree");
-        self.demand(self.is_late() || self.is_on_path(bound, leaf), fault)
+        let text = "# is not the # leaf of the tree";
+        let parts = [Node(leaf), Text(end)];
+        self.demand(self.is_late() || self.is_on_path(bound, leaf), text, &parts)
     }
 
     pub(crate) fn is_in_trie(&self) -> bool {
@@ -111,11 +124,7 @@ impl ClaimedEdit<'_> {
     /// The pairs that the edit makes of those of a leaf.
     pub(crate) fn pairs_left(&self, leaf: u64) -> Result<MapPairs, AllocError> {
         let mut pairs = self.pairs_of(leaf)?;
-        pairs.retain(|pair| pair.0 != self.key);
-        if let Some(value) = self.rule.leaves() {
-            pairs.push((self.key, value))?;
-        }
-        pairs.sort()?;
+        leave(&mut pairs, self.key, self.rule)?;
         Ok(pairs)
     }
 
@@ -140,19 +149,6 @@ impl ClaimedEdit<'_> {
         let high = self.settled(leaf, SettledPart::High(slot));
         let key = self.settled(leaf, SettledPart::Key(slot));
         (key, wide_value(low, high))
-    }
-
-    /// Pairs in words.
-    pub(crate) fn words(&self, pairs: &MapPairs) -> Result<String, AllocError> {
-        let alloc = self.before.alloc;
-        if pairs.is_empty() {
-            return String::from_str(alloc, "no pair");
-        }
-        let mut text = String::from_str(alloc, "pairs")?;
-        for (key, value) in pairs.iter() {
-            write!(text, " {key} {value}")?;
-        }
-        Ok(text)
     }
 
     /// On which side of a fork a key is: all that is above all keys is on the left of a fork there.

@@ -1,8 +1,9 @@
 //! The condition that a line of a record breaks.
-use crate::breach::{Breach, Objection, object};
+use crate::breach::{Breach, Objection};
 use crate::entries::check_entry;
 use crate::idle::check_idle;
 use crate::lines_before::LinesBefore;
+use crate::parts::Part::{Number, Text};
 use crate::replies::check_reply;
 use crate::steps::check_step;
 use crate::words::entry_words;
@@ -41,13 +42,10 @@ fn check(alloc: Global, record: &Record, line: usize) -> Result<(), Objection> {
 
 /// After an update that wins comes its entry.
 fn check_owed(before: &LinesBefore<'_>) -> Result<(), Objection> {
-    let (alloc, turn) = (before.alloc, before.turn);
     let Some(entry) = &before.owed else {
         return Ok(());
     };
-    let wanted = entry_words(alloc, entry)?;
-    let fault = format!(in alloc;
-        "the update of turn {turn} has won, so its entry comes next: {wanted}"
-    );
-    Err(object(0, fault))
+    let wanted = entry_words(before.alloc, entry)?;
+    let text = "the update of turn # has won, so its entry comes next: #";
+    Err(before.object(0, text, &[Number(before.turn), Text(wanted.as_str())]))
 }

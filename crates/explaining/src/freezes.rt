@@ -1,21 +1,17 @@
 //! Freezing exchanges.
 use crate::begins::check_beginning;
-use crate::breach::{Objection, demand, object};
+use crate::breach::Objection;
 use crate::lines_before::LinesBefore;
+use crate::parts::Part::{Named, Node, Number, Scx};
 use crate::steps::{AFTER, WORD};
 use arena::{NodeNo, NodeWord, Row, ScxWord, Word};
-use report::word_text;
 
 /// A freeze exchanges the info of a node that an SCX-record covers, from its `i` word to the
 /// SCX-record, and all its earlier nodes have been frozen for it.
 pub(crate) fn check_freeze(before: &LinesBefore<'_>, row: &Row) -> Result<(), Objection> {
-    let alloc = before.alloc;
     let Word::Node(node, NodeWord::Info) = row.word else {
-        let word = word_text(alloc, row.word)?;
-        let fault = format!(in alloc;
-            "{word} in place of the info of a node, which a freeze exchanges"
-        );
-        return Err(object(WORD, fault));
+        let text = "# in place of the info of a node, which a freeze exchanges";
+        return Err(before.object(WORD, text, &[Named(row.word)]));
     };
     if row.before == row.after {
         return check_lost(before, row, node);
@@ -25,10 +21,10 @@ pub(crate) fn check_freeze(before: &LinesBefore<'_>, row: &Row) -> Result<(), Ob
 
 /// One that changes the info wins, so it is for the SCX-record that it leaves there.
 fn check_won(before: &LinesBefore<'_>, row: &Row, node: NodeNo) -> Result<(), Objection> {
-    let (alloc, scx, node) = (before.alloc, row.after, node.0);
+    let (scx, node) = (row.after, node.0);
     let Some(place) = before.place_of(scx, node) else {
-        let fault = format!(in alloc; "s{scx} does not cover n{node}, so it does not freeze it");
-        return Err(object(AFTER, fault));
+        let text = "# does not cover #, so it does not freeze it";
+        return Err(before.object(AFTER, text, &[Scx(scx), Node(node)]));
     };
     check_wins(before, row, scx, place)?;
     check_earlier(before, scx, place)?;
@@ -41,50 +37,56 @@ fn check_won(before: &LinesBefore<'_>, row: &Row, node: NodeNo) -> Result<(), Ob
 
 /// It has found what the node's info was.
 fn check_wins(before: &LinesBefore<'_>, row: &Row, scx: u64, place: u8) -> Result<(), Objection> {
-    let (alloc, seen) = (before.alloc, before.scx_word(scx, ScxWord::Seen(place)));
-    let fault = format!(in alloc;
-        "{scx} in place of {}, since the exchange is lost: i{place} of s{scx} is {seen}",
-        row.before
-    );
-    demand(row.before == seen, AFTER, fault)
+    let seen = before.scx_word(scx, ScxWord::Seen(place));
+    let text = "# in place of #, since the exchange is lost: i# of # is #";
+    let parts = [
+        Number(scx),
+        Number(row.before),
+        Number(u64::from(place)),
+        Scx(scx),
+        Number(seen),
+    ];
+    before.demand(row.before == seen, AFTER, text, &parts)
 }
 
 fn check_unfinished(before: &LinesBefore<'_>, scx: u64) -> Result<(), Objection> {
-    let (alloc, state) = (before.alloc, before.scx_word(scx, ScxWord::State));
-    let fault = format!(in alloc;
-        "s{scx} is finished, since its state is {state}, so it freezes no more"
-    );
-    demand(state == 0, AFTER, fault)
+    let state = before.scx_word(scx, ScxWord::State);
+    let text = "# is finished, since its state is #, so it freezes no more";
+    before.demand(state == 0, AFTER, text, &[Scx(scx), Number(state)])
 }
 
 /// All earlier nodes have been frozen.
 fn check_earlier(before: &LinesBefore<'_>, scx: u64, place: u8) -> Result<(), Objection> {
-    let alloc = before.alloc;
     let Some(earlier) = before.first_unfrozen(scx, place) else {
         return Ok(());
     };
-    let fault = format!(in alloc;
-        "n{}, which s{scx} covers before n{}, was never frozen for s{scx}",
-        before.member(scx, earlier),
-        before.member(scx, place)
-    );
-    Err(object(WORD, fault))
+    let text = "#, which # covers before #, was never frozen for #";
+    let parts = [
+        Node(before.member(scx, earlier)),
+        Scx(scx),
+        Node(before.member(scx, place)),
+        Scx(scx),
+    ];
+    Err(before.object(WORD, text, &parts))
 }
 
 /// One that changes nothing is lost for some SCX-record, which covers the node.
 fn check_lost(before: &LinesBefore<'_>, row: &Row, node: NodeNo) -> Result<(), Objection> {
-    let (alloc, node) = (before.alloc, node.0);
     let Some(scx) = before.probable_scx(row.pass, row.word) else {
-        let fault = format!(in alloc; "no SCX-record covers n{node}, so none freezes it");
-        return Err(object(WORD, fault));
+        let text = "no SCX-record covers #, so none freezes it";
+        return Err(before.object(WORD, text, &[Node(node.0)]));
     };
-    let Some(place) = before.place_of(scx, node) else {
+    let Some(place) = before.place_of(scx, node.0) else {
         return Ok(());
     };
     check_earlier(before, scx, place)?;
-    let fault = format!(in alloc;
-        "{} in place of {scx}, since the exchange wins: i{place} of s{scx} is {} too",
-        row.after, row.before
-    );
-    Err(object(AFTER, fault))
+    let text = "# in place of #, since the exchange wins: i# of # is # too";
+    let parts = [
+        Number(row.after),
+        Number(scx),
+        Number(u64::from(place)),
+        Scx(scx),
+        Number(row.before),
+    ];
+    Err(before.object(AFTER, text, &parts))
 }

@@ -1,8 +1,8 @@
 //! Turns without a step.
-use crate::breach::{Objection, demand, object};
+use crate::breach::Objection;
 use crate::lines_before::LinesBefore;
+use crate::parts::Part::Call;
 use crate::steps::{check_number, check_pass};
-use crate::words::call_words;
 use arena::PassNo;
 
 const KIND: usize = 3;
@@ -24,12 +24,10 @@ pub(crate) fn check_idle(
 /// A call that has not begun may be answered without a step, but its reply is to follow. This is
 /// asked last, so it is what is broken.
 fn check_not_begun(before: &LinesBefore<'_>, pass: PassNo) -> Result<(), Objection> {
-    let (alloc, call) = (before.alloc, call_words(before, pass)?);
-    let fault = format!(in alloc; "{call}, has begun, and makes a step in each of its turns");
-    demand(before.client(pass).begun.is_none(), KIND, fault)?;
-    let fault = format!(in alloc;
-        "{call}, is not answered, so a turn without a step is all of it, and in the next row is its reply, \
-     with an answer that needs no step"
-    );
-    Err(object(KIND, fault))
+    let text = "#, has begun, and makes a step in each of its turns";
+    let parts = [Call(pass)];
+    before.demand(before.client(pass).begun.is_none(), KIND, text, &parts)?;
+    let text = "#, is not answered, so a turn without a step is all of it, and in the next row \
+        is its reply, with an answer that needs no step";
+    Err(before.object(KIND, text, &[Call(pass)]))
 }

@@ -2,6 +2,7 @@
 use crate::breach::Objection;
 use crate::claimed_edit::ClaimedEdit;
 use crate::map_before::MapPairs;
+use crate::parts::Part::{Node, Number, Pairs};
 use arena::{NodeNo, Side};
 use std::alloc::AllocError;
 
@@ -20,33 +21,27 @@ pub(crate) fn check_leaf_edit(edit: &ClaimedEdit<'_>) -> Result<(), Objection> {
 
 /// `new` is on the level of the leaf in whose place it comes.
 fn check_level(edit: &ClaimedEdit<'_>, leaf: u64, new: u64) -> Result<(), Objection> {
-    let alloc = edit.before.alloc;
     let (level, wanted) = (edit.head(new).level, edit.head(leaf).level);
-    let fault = format!(in alloc; "n{new} has level {level} in place of {wanted}, that of n{leaf}");
-    edit.demand(level == wanted, fault)
+    let text = "# has level # in place of #, that of #";
+    let parts = [Node(new), Number(level), Number(wanted), Node(leaf)];
+    edit.demand(level == wanted, text, &parts)
 }
 
 /// Another leaf comes in the place of a leaf that has pairs.
 pub(crate) fn check_swap(edit: &ClaimedEdit<'_>, leaf: u64, new: u64) -> Result<(), Objection> {
-    let alloc = edit.before.alloc;
     check_level(edit, leaf, new)?;
-    let fault = format!(in alloc;
-        "it puts the leaf n{new} in place of n{leaf}, which is above all keys and needs a fork"
-    );
-    edit.demand(edit.head(leaf).class == 0, fault)?;
+    let text = "it puts the leaf # in place of #, which is above all keys and needs a fork";
+    edit.demand(edit.head(leaf).class == 0, text, &[Node(new), Node(leaf)])?;
     edit.check_low_leaf(new)?;
     check_pairs(edit, leaf, &edit.pairs_of(new)?)
 }
 
 /// The pairs are those that the call makes of a leaf.
 fn check_pairs(edit: &ClaimedEdit<'_>, leaf: u64, put: &MapPairs) -> Result<(), Objection> {
-    let (alloc, put) = (edit.before.alloc, edit.words(put)?);
-    let shown = edit.words(&edit.pairs_of(leaf)?)?;
-    let wanted = edit.words(&edit.pairs_left(leaf)?)?;
-    let fault = format!(in alloc;
-        "it puts {put} in place of {wanted}, which the call makes of {shown}"
-    );
-    edit.demand(put.as_str() == wanted.as_str(), fault)
+    let (shown, wanted) = (edit.pairs_of(leaf)?, edit.pairs_left(leaf)?);
+    let text = "it puts # in place of #, which the call makes of #";
+    let parts = [Pairs(put), Pairs(&wanted), Pairs(&shown)];
+    edit.demand(put.as_slice() == wanted.as_slice(), text, &parts)
 }
 
 /// A fork comes in the place of a leaf, over two fresh ones: between them they have what the call
@@ -79,21 +74,19 @@ fn joined(mut low: MapPairs, high: &MapPairs) -> Result<MapPairs, AllocError> {
 
 /// A node below the fork is named by no word yet, and, in a tree, one level below it.
 fn check_fresh(edit: &ClaimedEdit<'_>, fork: u64, node: u64) -> Result<(), Objection> {
-    let alloc = edit.before.alloc;
     check_unnamed(edit, fork, node)?;
     let (level, above) = (edit.head(node).level, edit.head(fork).level);
     let wanted = above.saturating_add(1);
-    let fault = format!(in alloc;
-        "n{node} has level {level} in place of {wanted}, just below n{fork}"
-    );
-    edit.demand(level == wanted || edit.is_in_trie(), fault)
+    let text = "# has level # in place of #, just below #";
+    let parts = [Node(node), Number(level), Number(wanted), Node(fork)];
+    edit.demand(level == wanted || edit.is_in_trie(), text, &parts)
 }
 
 /// A node below the fork is named by no word yet.
 pub(crate) fn check_unnamed(edit: &ClaimedEdit<'_>, fork: u64, node: u64) -> Result<(), Objection> {
-    let alloc = edit.before.alloc;
-    let fault = format!(in alloc; "n{node}, below n{fork}, is named already");
-    edit.demand(!edit.before.judge.is_named_node(NodeNo(node)), fault)
+    let text = "#, below #, is named already";
+    let parts = [Node(node), Node(fork)];
+    edit.demand(!edit.before.judge.is_named_node(NodeNo(node)), text, &parts)
 }
 
 /// Two nodes are of one class, and have one key if that is asked.
@@ -103,15 +96,19 @@ fn check_alike(
     other: u64,
     has_its_key: bool,
 ) -> Result<(), Objection> {
-    let alloc = edit.before.alloc;
     let (class, wanted) = (edit.head(node).class, edit.head(other).class);
-    let fault = format!(in alloc;
-        "n{node} has class {class} in place of {wanted}, that of n{other}"
-    );
-    edit.demand(class == wanted, fault)?;
+    let text = "# has class # in place of #, that of #";
+    let parts = [
+        Node(node),
+        Number(u64::from(class)),
+        Number(u64::from(wanted)),
+        Node(other),
+    ];
+    edit.demand(class == wanted, text, &parts)?;
     let (key, wanted) = (edit.key_of(node), edit.key_of(other));
-    let fault = format!(in alloc; "n{node} has key {key} in place of {wanted}, that of n{other}");
-    edit.demand(key == wanted || !has_its_key, fault)
+    let text = "# has key # in place of #, that of #";
+    let parts = [Node(node), Number(key), Number(wanted), Node(other)];
+    edit.demand(key == wanted || !has_its_key, text, &parts)
 }
 
 /// The keys of a leaf are on its side of the fork.
@@ -122,12 +119,11 @@ fn check_side(
     side: Side,
     pairs: &MapPairs,
 ) -> Result<(), Objection> {
-    let (alloc, parting) = (edit.before.alloc, edit.key_of(fork));
+    let parting = edit.key_of(fork);
     for (key, _) in pairs.iter() {
-        let fault = format!(in alloc;
-            "n{leaf} has key {key} on the wrong side of n{fork}, of key {parting}"
-        );
-        edit.demand(edit.toward(fork, *key) == side, fault)?;
+        let text = "# has key # on the wrong side of #, of key #";
+        let parts = [Node(leaf), Number(*key), Node(fork), Number(parting)];
+        edit.demand(edit.toward(fork, *key) == side, text, &parts)?;
     }
     Ok(())
 }

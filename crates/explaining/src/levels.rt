@@ -1,6 +1,7 @@
 //! Levels of a tree.
-use crate::breach::{Objection, demand};
+use crate::breach::Objection;
 use crate::lines_before::LinesBefore;
+use crate::parts::Part::{Node, Number};
 use crate::steps::{AFTER, WORD};
 use arena::{Head, NodeNo, NodeWord, Row, SettledPart, Side, Word};
 
@@ -23,16 +24,14 @@ fn stands(before: &LinesBefore<'_>, node: u64) -> bool {
 
 /// The head of the node may still change.
 fn check_head(before: &LinesBefore<'_>, node: u64) -> Result<(), Objection> {
-    let alloc = before.alloc;
-    let fault = format!(in alloc; "the head of n{node} stays, since a field has held it");
-    demand(!stands(before, node), WORD, fault)
+    let text = "the head of # stays, since a field has held it";
+    before.demand(!stands(before, node), WORD, text, &[Node(node)])
 }
 
 /// A node may be below another, and what is below it too.
 fn check_child(before: &LinesBefore<'_>, node: u64, child: u64) -> Result<(), Objection> {
-    let alloc = before.alloc;
-    let fault = format!(in alloc; "n{child} is put below itself");
-    demand(node != child, AFTER, fault)?;
+    let text = "# is put below itself";
+    before.demand(node != child, AFTER, text, &[Node(child)])?;
     if stands(before, node) {
         check_rises(before, node, child)?;
     }
@@ -45,12 +44,15 @@ fn check_child(before: &LinesBefore<'_>, node: u64, child: u64) -> Result<(), Ob
 
 /// The level of a fork is below that of a child.
 fn check_rises(before: &LinesBefore<'_>, fork: u64, child: u64) -> Result<(), Objection> {
-    let (alloc, above, below) = (before.alloc, head(before, fork), head(before, child));
-    let fault = format!(in alloc;
-        "n{child} of level {} is put below n{fork} of level {}: levels rise",
-        below.level, above.level
-    );
-    demand(above.leaf || above.level < below.level, AFTER, fault)
+    let (above, below) = (head(before, fork), head(before, child));
+    let text = "# of level # is put below # of level #: levels rise";
+    let parts = [
+        Node(child),
+        Number(below.level),
+        Node(fork),
+        Number(above.level),
+    ];
+    before.demand(above.leaf || above.level < below.level, AFTER, text, &parts)
 }
 
 fn head(before: &LinesBefore<'_>, node: u64) -> Head {

@@ -22,6 +22,7 @@ mod loads;
 mod made_edit;
 mod map_answers;
 mod map_before;
+mod parts;
 mod replies;
 mod steps;
 mod stores;

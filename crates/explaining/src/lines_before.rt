@@ -74,6 +74,11 @@ impl<'a> LinesBefore<'a> {
         Ok(())
     }
 
+    fn add_row(&mut self, row: Row) -> Result<(), AllocError> {
+        self.rows.push(row)?;
+        Ok(())
+    }
+
     fn add_entry(&mut self, entry: Entry) -> Result<(), AllocError> {
         self.entries.push(entry)?;
         Ok(())
@@ -96,7 +101,7 @@ impl<'a> LinesBefore<'a> {
 
     fn add_step(&mut self, row: &Row) -> Result<(), Objection> {
         self.add_turn(row.pass, 1);
-        self.rows.push(*row).map_err(|_| Objection::NoMemory)?;
+        self.add_row(*row)?;
         self.owed = self.owed_by(row);
         if let Some(entry) = self.owed
             && let Some(client) = self.clients.get_mut(entry.client.0 as usize)
@@ -158,10 +163,14 @@ impl<'a> LinesBefore<'a> {
 
     /// The command of a client's next call, if it has one left.
     pub(crate) fn next(&self, pass: PassNo) -> Option<Command> {
-        let answered = self.client(pass).answered;
+        self.command_of(pass, self.client(pass).answered)
+    }
+
+    /// The command of a client's call of this number.
+    pub(crate) fn command_of(&self, client: PassNo, number: u64) -> Option<Command> {
         let calls = self.record.script.calls.as_slice();
-        let mut own = calls.iter().filter(|call| call.client == pass);
-        Some(own.nth(answered as usize)?.command)
+        let mut own = calls.iter().filter(|call| call.client == client);
+        Some(own.nth(number as usize)?.command)
     }
 
     /// What a word of a node holds; 0 if there is no such node.

@@ -1,22 +1,22 @@
 //! Loads.
-use crate::breach::{Objection, demand};
+use crate::breach::Objection;
 use crate::lines_before::LinesBefore;
+use crate::parts::Part::{Named, Text};
 use crate::steps::{AFTER, WORD};
 use crate::words::name_of;
 use arena::{Kind, NodeWord, Row, ScxWord, Word};
-use report::word_text;
 
 /// A load is of a word of its kind, and changes nothing.
 pub(crate) fn check_load(before: &LinesBefore<'_>, row: &Row) -> Result<(), Objection> {
-    let (alloc, kind) = (before.alloc, name_of(row.kind));
-    let (word, wanted) = (word_text(alloc, row.word)?, loaded_by(row.kind));
-    let fault = format!(in alloc; "{word} in place of {wanted}, which {kind} loads");
-    demand(is_loaded_by(row.kind, row.word), WORD, fault)?;
-    let fault = format!(in alloc;
-        "{} in place of {}, since a load changes nothing",
-        row.after, row.before
-    );
-    demand(row.after == row.before, AFTER, fault)
+    let text = "# in place of #, which # loads";
+    let parts = [
+        Named(row.word),
+        Text(loaded_by(row.kind)),
+        Text(name_of(row.kind)),
+    ];
+    before.demand(is_loaded_by(row.kind, row.word), WORD, text, &parts)?;
+    let why = "since a load changes nothing";
+    before.demand_same(AFTER, row.after, row.before, why)
 }
 
 fn is_loaded_by(kind: Kind, word: Word) -> bool {

@@ -1,14 +1,14 @@
 //! Whether an SCX-record that begins makes the edit of its client's call.
-use crate::breach::{Objection, object};
+use crate::breach::Objection;
 use crate::claimed_edit::ClaimedEdit;
 use crate::leaf_edit::check_leaf_edit;
 use crate::leaf_out::check_leaf_out;
 use crate::lines_before::LinesBefore;
 use crate::map_before::end_pair;
+use crate::parts::Part::{Call, Node, Number, Scx, Text};
 use crate::steps::AFTER;
 use crate::trie_edit::{check_above, check_end_leaf_edit, check_end_leaf_out, end_leaf_out};
 use crate::trie_keys::check_keys;
-use crate::words::call_words;
 use arena::{PassNo, Row, ScxWord, Side};
 use ordered_map::{Goal, Rule};
 use script::Command;
@@ -38,15 +38,15 @@ fn asked_edit(before: &LinesBefore<'_>, pass: PassNo) -> Option<(Goal, Rule)> {
 
 /// The edit of the client's call for which an SCX-record begins.
 fn claimed_edit<'a>(before: &'a LinesBefore<'a>, row: &Row) -> Result<ClaimedEdit<'a>, Objection> {
-    let (alloc, scx, call) = (before.alloc, row.after, call_words(before, row.pass)?);
-    let Some((goal, rule)) = asked_edit(before, row.pass) else {
-        let fault = format!(in alloc; "s{scx} begins for {call}, which makes no edit");
-        return Err(object(AFTER, fault));
+    let (scx, client) = (row.after, row.pass);
+    let Some((goal, rule)) = asked_edit(before, client) else {
+        let text = "# begins for #, which makes no edit";
+        return Err(before.object(AFTER, text, &[Scx(scx), Call(client)]));
     };
     let mut edit = ClaimedEdit {
         before,
         scx,
-        call,
+        client,
         goal,
         rule,
         key: 0,
@@ -82,24 +82,23 @@ fn check_in_trie(edit: &ClaimedEdit<'_>) -> Result<(), Objection> {
 
 /// It covers neither so many nodes nor four.
 fn refuse_count(edit: &ClaimedEdit<'_>, many: u8, few: &str) -> Result<(), Objection> {
-    let alloc = edit.before.alloc;
-    let fault = format!(in alloc;
-        "it covers {many} nodes, in place of {few}, or of four to take a leaf out"
-    );
-    edit.demand(false, fault)
+    let text = "it covers # nodes, in place of #, or of four to take a leaf out";
+    edit.demand(false, text, &[Number(u64::from(many)), Text(few)])
 }
 
 /// The key of the edit; at an end of the map it is that of the leaf there.
 fn key_of(edit: &ClaimedEdit<'_>) -> Result<u64, Objection> {
-    let alloc = edit.before.alloc;
     let (leaf, end) = match edit.goal {
         Goal::Key(key) => return Ok(key),
         Goal::End(side) => (end_leaf(edit, side), side),
     };
     let pair = end_pair(&edit.pairs_of(leaf)?, end);
-    let fault = format!(in alloc; "n{leaf} holds no pair to take out");
-    edit.demand(pair.is_some(), fault)?;
-    Ok(pair.map(|pair| pair.0).unwrap_or(0))
+    let text = "# holds no pair to take out";
+    edit.demand(pair.is_some(), text, &[Node(leaf)])?;
+    match pair {
+        Some((key, _)) => Ok(key),
+        None => Ok(0),
+    }
 }
 
 /// The leaf at an end from which it takes a pair: of two nodes, or three in a trie, the second, of

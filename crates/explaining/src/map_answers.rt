@@ -1,8 +1,9 @@
 //! Answers of calls of the map.
 use crate::blame::{check_blame, check_since};
-use crate::breach::{Objection, demand, object};
+use crate::breach::Objection;
 use crate::lines_before::LinesBefore;
 use crate::map_before::{needed_by, pairs_at, reply_of};
+use crate::parts::Part::{Number, Text, Told};
 use crate::replies::{ANSWER, MOMENT};
 use arena::{Full, Kind, Mode, NodeNo, NodeWord, PassNo, Resource, ScxNo, SettledPart, Word};
 use ordered_map::{Goal, Reply, Request};
@@ -73,14 +74,22 @@ fn check_change(
     reply: &Finished,
     turn: u64,
 ) -> Result<(), Objection> {
-    let alloc = before.alloc;
     check_moment_is(before, reply, turn, "the turn of the call's update")?;
-    let answer = answer_text(alloc, &reply.answer)?;
+    let answer = answer_text(before.alloc, &reply.answer)?;
     let wanted = reply_at(before, request, turn.saturating_sub(1))?;
-    let fault = format!(in alloc;
-        "{answer} in place of {wanted}, which the map replies just before turn {turn}, when the update wins"
-    );
-    demand(answer.as_str() == wanted.as_str(), ANSWER, fault)
+    check_replied(before, turn, answer.as_str(), wanted.as_str())
+}
+
+/// The answer is what the map replied just before the turn of the update.
+fn check_replied<'a>(
+    before: &LinesBefore<'_>,
+    turn: u64,
+    answer: &'a str,
+    wanted: &'a str,
+) -> Result<(), Objection> {
+    let text = "# in place of #, which the map replies just before turn #, when the update wins";
+    let parts = [Text(answer), Text(wanted), Number(turn)];
+    before.demand(answer == wanted, ANSWER, text, &parts)
 }
 
 /// A call that reads answers what the map replied after a turn of the call, and names the latest
@@ -90,19 +99,32 @@ fn check_reading(
     request: &Request<u64, u128>,
     reply: &Finished,
 ) -> Result<(), Objection> {
-    let alloc = before.alloc;
-    let answer = answer_text(alloc, &reply.answer)?;
-    let (begin, end) = (reply.begin, reply.end);
+    let answer = answer_text(before.alloc, &reply.answer)?;
     let what = "the latest turn of the call after which the map replies so";
     if let Some(latest) = latest_such(before, request, reply, answer.as_str())? {
         return check_moment_is(before, reply, latest, what);
     }
-    let last = reply_at(before, request, end)?;
-    let fault = format!(in alloc;
-        "{answer} in place of {last}, which the map replies after turn {end}, the call's last, and from turn \
-         {begin} on it never replies {answer}"
-    );
-    Err(object(ANSWER, fault))
+    let last = reply_at(before, request, reply.end)?;
+    Err(object_to_reading(before, reply, answer.as_str(), last.as_str()))
+}
+
+/// The map never replied so in the call.
+fn object_to_reading<'a>(
+    before: &LinesBefore<'_>,
+    reply: &Finished,
+    answer: &'a str,
+    last: &'a str,
+) -> Objection {
+    let text = "# in place of #, which the map replies after turn #, the call's last, and from \
+        turn # on it never replies #";
+    let parts = [
+        Text(answer),
+        Text(last),
+        Number(reply.end),
+        Number(reply.begin),
+        Text(answer),
+    ];
+    before.object(ANSWER, text, &parts)
 }
 
 /// The latest turn of a call after which the map replies this, if there is one.
@@ -116,10 +138,10 @@ fn latest_such(
         return Ok(Some(reply.end));
     }
     let mut latest = None;
-    let turns = before.entries.iter().map(|entry| entry.step);
-    for turn in turns.filter(|turn| *turn <= reply.end) {
-        let until = turn.saturating_sub(1);
-        if reply.begin < turn && reply_at(before, request, until)?.as_str() == answer {
+    for entry in before.entries.iter() {
+        let until = entry.step.saturating_sub(1);
+        let is_within = reply.begin < entry.step && entry.step <= reply.end;
+        if is_within && reply_at(before, request, until)?.as_str() == answer {
             latest = Some(until);
         }
     }
@@ -133,37 +155,30 @@ pub(crate) fn check_moment_is(
     turn: u64,
     what: &str,
 ) -> Result<(), Objection> {
-    let alloc = before.alloc;
-    match reply.moment {
-        Some(moment) => demand(
-            moment == turn,
-            MOMENT,
-            format!(in alloc; "{moment} in place of {turn}, {what}"),
-        ),
-        None => Err(object(
-            MOMENT,
-            format!(in alloc; "nothing in place of {turn}, {what}"),
-        )),
+    if let Some(moment) = reply.moment {
+        return before.demand_same(MOMENT, moment, turn, what);
     }
+    let text = "nothing in place of #, #";
+    Err(before.object(MOMENT, text, &[Number(turn), Text(what)]))
 }
 
 /// An answer that says nothing of the map has no moment.
 pub(crate) fn check_no_moment(before: &LinesBefore<'_>, reply: &Finished) -> Result<(), Objection> {
-    let (alloc, moment) = (before.alloc, reply.moment.unwrap_or(0));
-    let answer = answer_text(alloc, &reply.answer)?;
-    let fault = format!(in alloc; "{moment} where nothing is wanted: {answer} has no moment");
-    demand(reply.moment.is_none(), MOMENT, fault)
+    let text = "# where nothing is wanted: # has no moment";
+    let parts = [Number(reply.moment.unwrap_or(0)), Told(&reply.answer)];
+    before.demand(reply.moment.is_none(), MOMENT, text, &parts)
 }
 
 /// The call has begun as many tries as it may.
 fn check_tries(before: &LinesBefore<'_>, pass: PassNo) -> Result<(), Objection> {
-    let (alloc, limit) = (before.alloc, before.record.script.limits.tries);
+    let limit = before.record.script.limits.tries;
     let begun = before.rows.iter().skip(before.client(pass).first);
     let tries = begun
         .filter(|row| row.pass == pass && begins_try(row))
         .count();
-    let fault = format!(in alloc; "the call has begun {tries} tries, and gives up after {limit}");
-    demand(tries == limit as usize, ANSWER, fault)
+    let text = "the call has begun # tries, and gives up after #";
+    let parts = [Number(tries as u64), Number(u64::from(limit))];
+    before.demand(tries == limit as usize, ANSWER, text, &parts)
 }
 
 /// How many steps there were before the newest try of a client.
@@ -204,13 +219,10 @@ fn check_needed(
     request: &Request<u64, u128>,
     reply: &Finished,
 ) -> Result<(), Objection> {
-    let alloc = before.alloc;
     let needed = most_needed(before, request, reply)?;
-    let fault = format!(in alloc;
-        "the map gave the call nothing to do after any turn from {} to {}",
-        reply.begin, reply.end
-    );
-    demand(needed > 0 || request.edit().is_none(), ANSWER, fault)
+    let text = "the map gave the call nothing to do after any turn from # to #";
+    let parts = [Number(reply.begin), Number(reply.end)];
+    before.demand(needed > 0 || request.edit().is_none(), ANSWER, text, &parts)
 }
 
 /// The share has just so much left, too little for what the edit needed.
@@ -231,16 +243,15 @@ fn check_full(
 
 /// The share had enough as the call began, and no try can have been lost.
 fn object_to_full(before: &LinesBefore<'_>, pass: PassNo, resource: Resource) -> Objection {
-    let (alloc, layout, client) = (before.alloc, before.judge.layout(), before.client(pass));
+    let (layout, client) = (before.judge.layout(), before.client(pass));
     let (what, left) = match resource {
         Resource::Nodes => ("nodes", layout.nodes.saturating_sub(client.nodes)),
         Resource::Scx => ("SCX-records", layout.scx.saturating_sub(client.scx)),
     };
-    let fault = format!(in alloc;
-        "{left} {what} were left as the call began, and since then no SCX-record of another client was in \
-         progress, to which it could have lost a try"
-    );
-    object(ANSWER, fault)
+    let text = "# # were left as the call began, and since then no SCX-record of another client \
+        was in progress, to which it could have lost a try";
+    let parts = [Number(u64::from(left)), Text(what)];
+    before.object(ANSWER, text, &parts)
 }
 
 /// So many nodes are too few for the edit.
@@ -250,11 +261,10 @@ fn check_too_few(
     reply: &Finished,
     told: u32,
 ) -> Result<(), Objection> {
-    let (alloc, needed) = (before.alloc, most_needed(before, request, reply)?);
-    let fault = format!(in alloc;
-        "{told} nodes are enough for the call, which needed {needed} at most"
-    );
-    demand(told < needed, ANSWER, fault)
+    let needed = most_needed(before, request, reply)?;
+    let text = "# nodes are enough for the call, which needed # at most";
+    let parts = [Number(u64::from(told)), Number(u64::from(needed))];
+    before.demand(told < needed, ANSWER, text, &parts)
 }
 
 /// What is left of the share: so many nodes, or no SCX-record, and some node.
@@ -263,23 +273,16 @@ pub(crate) fn check_left(
     pass: PassNo,
     full: &Full,
 ) -> Result<(), Objection> {
-    let (alloc, layout, taken) = (before.alloc, before.judge.layout(), before.taken(pass));
+    let (layout, taken) = (before.judge.layout(), before.taken(pass));
     let nodes = layout.nodes.saturating_sub(taken.0);
     let scx = layout.scx.saturating_sub(taken.1);
     let (left, what) = match full.what {
-        Resource::Nodes => (nodes, "nodes"),
-        Resource::Scx => (scx, "SCX-records"),
+        Resource::Nodes => (nodes, "the nodes that are left of the share"),
+        Resource::Scx => (scx, "the SCX-records that are left of the share"),
     };
-    let (told, fits) = (
-        full.left,
-        full.what == Resource::Nodes || (scx == 0 && nodes > 0),
-    );
-    let fault = format!(in alloc;
-        "{told} in place of {left}, the {what} that are left of the share"
-    );
-    demand(told == left, ANSWER, fault)?;
-    let fault = format!(in alloc;
-        "{scx} SCX-records and {nodes} nodes are left: none and some are wanted"
-    );
-    demand(fits, ANSWER, fault)
+    let fits = full.what == Resource::Nodes || (scx == 0 && nodes > 0);
+    before.demand_same(ANSWER, u64::from(full.left), u64::from(left), what)?;
+    let text = "# SCX-records and # nodes are left: none and some are wanted";
+    let parts = [Number(u64::from(scx)), Number(u64::from(nodes))];
+    before.demand(fits, ANSWER, text, &parts)
 }

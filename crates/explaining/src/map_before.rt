@@ -1,7 +1,7 @@
 //! The map after a turn.
 use crate::lines_before::LinesBefore;
-use arena::{PassNo, Side};
-use ordered_map::{Goal, Reply, Request};
+use arena::Side;
+use ordered_map::{Goal, Reply, Request, Rule};
 use script::Command;
 use std::alloc::{AllocError, Global};
 
@@ -13,19 +13,12 @@ pub(crate) fn pairs_at(before: &LinesBefore<'_>, turn: u64) -> Result<MapPairs, 
     let mut pairs = Vec::new(before.alloc);
     for entry in before.entries.iter() {
         if entry.step <= turn
-            && let Some(command) = command_of(before, entry.client, entry.call)
+            && let Some(command) = before.command_of(entry.client, entry.call)
         {
             edit_pairs(&mut pairs, command)?;
         }
     }
     Ok(pairs)
-}
-
-/// The command of a client's call of this number.
-fn command_of(before: &LinesBefore<'_>, client: PassNo, number: u64) -> Option<Command> {
-    let calls = before.record.script.calls.as_slice();
-    let mut own = calls.iter().filter(|call| call.client == client);
-    Some(own.nth(number as usize)?.command)
 }
 
 /// Edits the pairs of a map, by rising key, as a command does that has an entry.
@@ -34,12 +27,18 @@ pub fn edit_pairs(pairs: &mut Vec<(u64, u128)>, command: Command) -> Result<(), 
         && let Some((goal, rule)) = request.edit()
         && let Some(key) = key_of(goal, pairs)
     {
-        pairs.retain(|pair| pair.0 != key);
-        if let Some(value) = rule.leaves() {
-            pairs.push((key, value))?;
-        }
-        pairs.sort()?;
+        leave(pairs, key, rule)?;
     }
+    Ok(())
+}
+
+/// Gives a key what this rule leaves it.
+pub(crate) fn leave(pairs: &mut MapPairs, key: u64, rule: Rule) -> Result<(), AllocError> {
+    pairs.retain(|pair| pair.0 != key);
+    if let Some(value) = rule.leaves() {
+        pairs.push((key, value))?;
+    }
+    pairs.sort()?;
     Ok(())
 }
 
@@ -47,13 +46,13 @@ pub fn edit_pairs(pairs: &mut Vec<(u64, u128)>, command: Command) -> Result<(), 
 fn key_of(goal: Goal, pairs: &MapPairs) -> Option<u64> {
     match goal {
         Goal::Key(key) => Some(key),
-        Goal::End(side) => end_pair(pairs, side).map(|pair| pair.0),
+        Goal::End(side) => Some(end_pair(pairs, side)?.0),
     }
 }
 
 /// What a key has.
-fn value_of(pairs: &MapPairs, key: u64) -> Option<u128> {
-    pairs.iter().find(|pair| pair.0 == key).map(|pair| pair.1)
+pub(crate) fn value_of(pairs: &MapPairs, key: u64) -> Option<u128> {
+    Some(pairs.iter().find(|pair| pair.0 == key)?.1)
 }
 
 /// The pair at an end.

@@ -1,13 +1,12 @@
 //! Replies.
-use crate::breach::{Objection, demand, object};
+use crate::breach::Objection;
 use crate::cell_answers::check_cell_answer;
 use crate::lines_before::LinesBefore;
 use crate::map_answers::check_map_answer;
-use crate::words::call_words;
+use crate::parts::Part::{Call, Client, Number, Told};
 use arena::PassNo;
 use ordered_map::{Reply, Request};
 use record::{Answer, Finished};
-use report::answer_text;
 use script::Command;
 
 const CLIENT: usize = 1;
@@ -24,11 +23,10 @@ pub(crate) const ANSWER: usize = 6;
 
 /// A reply answers the next call of the client that made the newest turn, which is its last.
 pub(crate) fn check_reply(before: &LinesBefore<'_>, reply: &Finished) -> Result<(), Objection> {
-    let alloc = before.alloc;
     check_newest(before, reply.client)?;
     let Some(command) = before.next(reply.client) else {
-        let fault = format!(in alloc; "client {} has no call left", reply.client.0);
-        return Err(object(CLIENT, fault));
+        let text = "# has no call left";
+        return Err(before.object(CLIENT, text, &[Client(reply.client)]));
     };
     check_turns(before, reply)?;
     check_form(before, &command, reply)?;
@@ -42,43 +40,33 @@ pub(crate) fn check_reply(before: &LinesBefore<'_>, reply: &Finished) -> Result<
 }
 
 fn check_newest(before: &LinesBefore<'_>, client: PassNo) -> Result<(), Objection> {
-    let alloc = before.alloc;
     let Some(last) = before.last else {
-        return Err(object(CLIENT, String::from_str(alloc, "no turn has been made")));
+        return Err(before.object(CLIENT, "no turn has been made", &[]));
     };
-    let fault = format!(in alloc;
-        "{} in place of {}, the client that made the newest turn",
-        client.0, last.0
-    );
-    demand(last == client, CLIENT, fault)
+    let (found, wanted) = (u64::from(client.0), u64::from(last.0));
+    let what = "the client that made the newest turn";
+    before.demand_same(CLIENT, found, wanted, what)
 }
 
 /// The number of the call, and its first and last turn.
 fn check_turns(before: &LinesBefore<'_>, reply: &Finished) -> Result<(), Objection> {
     check_number(before, reply)?;
     check_begin(before, reply)?;
-    let (alloc, newest) = (before.alloc, before.turn);
-    let fault = format!(in alloc; "{} in place of {newest}, the newest turn", reply.end);
-    demand(reply.end == newest, END, fault)
+    before.demand_same(END, reply.end, before.turn, "the newest turn")
 }
 
 fn check_number(before: &LinesBefore<'_>, reply: &Finished) -> Result<(), Objection> {
-    let (alloc, next) = (before.alloc, before.client(reply.client).answered);
-    let fault = format!(in alloc; "{} in place of {next}, the client's next call", reply.call);
-    demand(reply.call == next, NUMBER, fault)
+    let next = before.client(reply.client).answered;
+    before.demand_same(NUMBER, reply.call, next, "the client's next call")
 }
 
 fn check_begin(before: &LinesBefore<'_>, reply: &Finished) -> Result<(), Objection> {
-    let (alloc, client) = (before.alloc, reply.client);
+    let client = reply.client;
     let Some(begun) = before.client(client).begun else {
-        let fault = format!(in alloc; "client {} has made no turn since its last reply", client.0);
-        return Err(object(CLIENT, fault));
+        let text = "# has made no turn since its last reply";
+        return Err(before.object(CLIENT, text, &[Client(client)]));
     };
-    let fault = format!(in alloc;
-        "{} in place of {begun}, the first turn of the call",
-        reply.begin
-    );
-    demand(reply.begin == begun, BEGIN, fault)
+    before.demand_same(BEGIN, reply.begin, begun, "the first turn of the call")
 }
 
 /// The call may give an answer of this form.
@@ -87,17 +75,15 @@ fn check_form(
     command: &Command,
     reply: &Finished,
 ) -> Result<(), Objection> {
-    let (alloc, call) = (before.alloc, call_words(before, reply.client)?);
-    let answer = answer_text(alloc, &reply.answer)?;
-    if before.is_idle {
-        return demand(
-            may_answer_at_once(command, &reply.answer),
-            ANSWER,
-            format!(in alloc; "{answer} is no answer to {call}, without a step"),
-        );
-    }
-    let fault = format!(in alloc; "{answer} is no answer to {call}, after a step");
-    demand(may_answer(command, &reply.answer), ANSWER, fault)
+    let (fits, text) = if before.is_idle {
+        let fits = may_answer_at_once(command, &reply.answer);
+        (fits, "# is no answer to #, without a step")
+    } else {
+        let fits = may_answer(command, &reply.answer);
+        (fits, "# is no answer to #, after a step")
+    };
+    let parts = [Told(&reply.answer), Call(reply.client)];
+    before.demand(fits, ANSWER, text, &parts)
 }
 
 fn may_answer_at_once(command: &Command, answer: &Answer) -> bool {
@@ -155,18 +141,13 @@ fn check_changed(
     command: &Command,
     reply: &Finished,
 ) -> Result<(), Objection> {
-    let (alloc, answer) = (before.alloc, answer_text(before.alloc, &reply.answer)?);
     let says = says_change(command, &reply.answer);
-    let won = before.client(reply.client).won;
-    let fault = match won {
-        Some(turn) => format!(in alloc;
-            "{answer} says that the call has changed nothing, but its update has won in turn {turn}"
-        ),
-        None => format!(in alloc;
-            "{answer} says that the call has made a change, but it has no entry in the log"
-        ),
+    let Some(turn) = before.client(reply.client).won else {
+        let text = "# says that the call has made a change, but it has no entry in the log";
+        return before.demand(!says, ANSWER, text, &[Told(&reply.answer)]);
     };
-    demand(says == won.is_some(), ANSWER, fault)
+    let text = "# says that the call has changed nothing, but its update has won in turn #";
+    before.demand(says, ANSWER, text, &[Told(&reply.answer), Number(turn)])
 }
 
 fn says_change(command: &Command, answer: &Answer) -> bool {
@@ -178,14 +159,13 @@ fn says_change(command: &Command, answer: &Answer) -> bool {
 }
 
 fn check_moment(before: &LinesBefore<'_>, reply: &Finished) -> Result<(), Objection> {
-    let (alloc, begin, end) = (before.alloc, reply.begin, reply.end);
+    let (begin, end) = (reply.begin, reply.end);
     let Some(moment) = reply.moment else {
         return Ok(());
     };
-    let fault = format!(in alloc;
-        "{moment} is not within the call, which is from turn {begin} to {end}"
-    );
-    demand(begin <= moment && moment <= end, MOMENT, fault)
+    let text = "# is not within the call, which is from turn # to #";
+    let parts = [Number(moment), Number(begin), Number(end)];
+    before.demand(begin <= moment && moment <= end, MOMENT, text, &parts)
 }
 
 /// The call has not taken more of its share than it may.
@@ -194,22 +174,19 @@ fn check_share(
     command: &Command,
     reply: &Finished,
 ) -> Result<(), Objection> {
-    let alloc = before.alloc;
     let (client, taken) = (before.client(reply.client), before.taken(reply.client));
     let (nodes, scx) = (
         taken.0.saturating_sub(client.nodes),
         taken.1.saturating_sub(client.scx),
     );
     let (each, most) = most_taken(command, before.record.script.limits.tries);
-    let fault = format!(in alloc;
-        "the call has taken {scx} SCX-records of its share, and may take {most}"
-    );
-    demand(scx <= most, ANSWER, fault)?;
+    let text = "the call has taken # SCX-records of its share, and may take #";
+    let count = Number(u64::from(scx));
+    before.demand(scx <= most, ANSWER, text, &[count, Number(u64::from(most))])?;
     let most = each.saturating_mul(scx);
-    let fault = format!(in alloc;
-        "the call has taken {nodes} nodes of its share, and may take {most} with {scx} SCX-records"
-    );
-    demand(nodes <= most, ANSWER, fault)
+    let text = "the call has taken # nodes of its share, and may take # with # SCX-records";
+    let parts = [Number(u64::from(nodes)), Number(u64::from(most)), count];
+    before.demand(nodes <= most, ANSWER, text, &parts)
 }
 
 /// How many nodes a call may take with each SCX-record, and how many of these.

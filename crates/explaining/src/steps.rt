@@ -1,17 +1,17 @@
 //! What is asked of each step.
-use crate::breach::{Objection, demand, object};
+use crate::breach::Objection;
 use crate::fills::check_fill;
 use crate::freezes::check_freeze;
 use crate::levels::check_levels;
 use crate::lines_before::LinesBefore;
 use crate::loads::check_load;
 use crate::made_edit::check_edit;
+use crate::parts::Part::{Call, Client, Named, Node, Number, Scx, Text};
 use crate::stores::{check_abort, check_commit, check_frozen, check_mark};
 use crate::updates::check_update;
-use crate::words::{call_words, name_of};
+use crate::words::name_of;
 use arena::{Kind, PassNo, Row, ScxWord, Word};
 use ordered_map::Request;
-use report::word_text;
 use script::Command;
 
 const NUMBER: usize = 1;
@@ -46,47 +46,50 @@ pub(crate) fn check_step(
 
 /// There is a client of this number.
 pub(crate) fn check_pass(before: &LinesBefore<'_>, pass: PassNo) -> Result<(), Objection> {
-    let (alloc, last) = (before.alloc, before.clients.len().saturating_sub(1));
-    let fault = format!(in alloc; "{} is above {last}, the last client", pass.0);
-    demand((pass.0 as usize) < before.clients.len(), CLIENT, fault)
+    let last = before.clients.len().saturating_sub(1);
+    let text = "# is above #, the last client";
+    let parts = [Number(u64::from(pass.0)), Number(last as u64)];
+    before.demand(
+        (pass.0 as usize) < before.clients.len(),
+        CLIENT,
+        text,
+        &parts,
+    )
 }
 
 /// Turns are numbered from 1.
 pub(crate) fn check_number(before: &LinesBefore<'_>, number: u64) -> Result<(), Objection> {
-    let (alloc, next) = (before.alloc, before.turn.saturating_add(1));
-    let fault = format!(in alloc; "{number} in place of {next}, the next turn");
-    demand(number == next, NUMBER, fault)
+    let next = before.turn.saturating_add(1);
+    before.demand_same(NUMBER, number, next, "the next turn")
 }
 
 /// The client has a call left, which may make a step of this kind.
 fn check_call(before: &LinesBefore<'_>, row: &Row) -> Result<(), Objection> {
-    let (alloc, pass) = (before.alloc, row.pass);
-    let Some(command) = before.next(pass) else {
-        let client = pass.0;
-        let fault = format!(in alloc;
-            "client {client} has no call left, so each further turn is idle"
-        );
-        return Err(object(CLIENT, fault));
+    let Some(command) = before.next(row.pass) else {
+        let text = "# has no call left, so each further turn is idle";
+        return Err(before.object(CLIENT, text, &[Client(row.pass)]));
     };
-    let (kind, kinds, call) = (
-        name_of(row.kind),
-        kinds_of(&command),
-        call_words(before, pass)?,
-    );
-    let fault = format!(in alloc; "{kind} by {call}, which makes {kinds}");
-    demand(may_make(&command, row.kind), KIND, fault)?;
+    let text = "# by #, which makes #";
+    let parts = [
+        Text(name_of(row.kind)),
+        Call(row.pass),
+        Text(kinds_of(&command)),
+    ];
+    before.demand(may_make(&command, row.kind), KIND, text, &parts)?;
     check_call_word(before, row)
 }
 
 /// A fill of `call` stores the number of the client's call.
 fn check_call_word(before: &LinesBefore<'_>, row: &Row) -> Result<(), Objection> {
-    let (alloc, number) = (before.alloc, before.client(row.pass).answered);
     let is_call = row.kind == Kind::Fill && matches!(row.word, Word::Scx(_, ScxWord::Call));
-    let fault = format!(in alloc;
-        "{} in place of {number}, the number of the client's call",
-        row.after
+    if !is_call {
+        return Ok(());
+    }
+    let (number, what) = (
+        before.client(row.pass).answered,
+        "the number of the client's call",
     );
-    demand(!is_call || row.after == number, AFTER, fault)
+    before.demand_same(AFTER, row.after, number, what)
 }
 
 /// Whether a call with this command may make a step of a kind.
@@ -119,17 +122,16 @@ fn kinds_of(command: &Command) -> &'static str {
 
 /// The word exists, and held what the step has found there.
 fn check_word(before: &LinesBefore<'_>, row: &Row) -> Result<(), Objection> {
-    let (alloc, layout) = (before.alloc, before.judge.layout());
-    let word = word_text(alloc, row.word)?;
+    let layout = before.judge.layout();
     let nodes = layout.all_nodes().saturating_sub(1);
     let scx = layout.all_scx().saturating_sub(1);
-    let fault = format!(in alloc;
-        "{word} does not exist: there are the nodes n0 to n{nodes} and the SCX-records s0 to s{scx}"
-    );
-    demand(layout.has(row.word), WORD, fault)?;
+    let text = "# does not exist: there are the nodes n0 to # and the SCX-records s0 to #";
+    let parts = [Named(row.word), Node(u64::from(nodes)), Scx(u64::from(scx))];
+    before.demand(layout.has(row.word), WORD, text, &parts)?;
     let held = before.judge.get(row.word);
-    let fault = format!(in alloc; "{} in place of {held}, which {word} holds", row.before);
-    demand(row.before == held, BEFORE, fault)
+    let text = "# in place of #, which # holds";
+    let parts = [Number(row.before), Number(held), Named(row.word)];
+    before.demand(row.before == held, BEFORE, text, &parts)
 }
 
 /// What is asked of its kind. A step that is lawful does what its kind allows.
@@ -149,8 +151,7 @@ fn check_kind(before: &LinesBefore<'_>, row: &Row) -> Result<(), Objection> {
 
 /// A call makes no more steps than it may. This is asked last, so it is what is broken.
 fn check_bound(before: &LinesBefore<'_>, row: &Row) -> Result<(), Objection> {
-    let (alloc, steps) = (before.alloc, before.client(row.pass).steps);
-    let call = call_words(before, row.pass)?;
-    let fault = format!(in alloc; "{call}, has made {steps} steps, and may make no more");
-    Err(object(NUMBER, fault))
+    let text = "#, has made # steps, and may make no more";
+    let parts = [Call(row.pass), Number(before.client(row.pass).steps)];
+    Err(before.object(NUMBER, text, &parts))
 }

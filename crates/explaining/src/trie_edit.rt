@@ -2,7 +2,8 @@
 use crate::breach::Objection;
 use crate::claimed_edit::ClaimedEdit;
 use crate::leaf_edit::{check_swap, check_unnamed};
-use crate::leaf_out::check_taken;
+use crate::leaf_out::{check_child, check_taken};
+use crate::parts::Part::{Node, Pairs};
 use crate::trie_keys::shares;
 use arena::{Kind, NodeWord, ScxNo, ScxWord, SettledPart, Side, Word};
 
@@ -19,16 +20,13 @@ pub(crate) fn check_end_leaf_edit(edit: &ClaimedEdit<'_>) -> Result<(), Objectio
 /// It covers two forks, one below the other, a child of the second and node 2: the other child is
 /// the leaf at an end, of which the call leaves nothing, and `new` is a copy of the first.
 pub(crate) fn check_end_leaf_out(edit: &ClaimedEdit<'_>) -> Result<(), Objection> {
-    let (alloc, fork) = (edit.before.alloc, edit.member(1));
+    let fork = edit.member(1);
     edit.check_place(52, 564, "retires its second and its third node")?;
     check_guard(edit, 3)?;
-    let fault = format!(in alloc; "n{fork}, its second node, is no fork");
-    edit.demand(!edit.head(fork).leaf, fault)?;
+    let text = "#, its second node, is no fork";
+    edit.demand(!edit.head(fork).leaf, text, &[Node(fork)])?;
     let side = edit.toward(fork, edit.key);
-    let (sibling, third) = (edit.child(fork, opposite(side)), edit.member(2));
-    let fault = format!(in alloc; "it covers n{third} in place of n{sibling}, a child of n{fork}");
-    let fits = sibling == third || !edit.before.is_as_seen(edit.scx, 1);
-    edit.demand(fits, fault)?;
+    check_child(edit, fork, opposite(side), edit.member(2))?;
     check_taken(edit, end_leaf_out(edit, side), 2)
 }
 
@@ -69,7 +67,7 @@ fn may_take_out(edit: &ClaimedEdit<'_>, node: u64) -> bool {
 /// It covers a fork and node 2, and `new` is a fork over the one that stood there and a fresh leaf of
 /// the call's pair.
 pub(crate) fn check_above(edit: &ClaimedEdit<'_>) -> Result<(), Objection> {
-    let (alloc, fork) = (edit.before.alloc, edit.new_node());
+    let fork = edit.new_node();
     let old = edit.before.scx_word(edit.scx, ScxWord::Old);
     edit.check_field(2, 514, "retires no node")?;
     check_guard(edit, 1)?;
@@ -77,37 +75,34 @@ pub(crate) fn check_above(edit: &ClaimedEdit<'_>) -> Result<(), Objection> {
     check_low_fork(edit, fork)?;
     let side = edit.toward(fork, edit.key);
     let below = edit.child(fork, opposite(side));
-    let fault = format!(in alloc;
-        "n{fork} has n{below} beside the new leaf in place of n{old}, its old"
-    );
-    edit.demand(below == old, fault)?;
+    let text = "# has # beside the new leaf in place of #, its old";
+    edit.demand(below == old, text, &[Node(fork), Node(below), Node(old)])?;
     check_lone_leaf(edit, fork, edit.child(fork, side))
 }
 
 /// A leaf below the fork is fresh, and holds just what the call puts in.
 fn check_lone_leaf(edit: &ClaimedEdit<'_>, fork: u64, leaf: u64) -> Result<(), Objection> {
-    let alloc = edit.before.alloc;
     check_unnamed(edit, fork, leaf)?;
     edit.check_low_leaf(leaf)?;
     edit.check_asks(edit.member(1))?;
-    let put = edit.words(&edit.pairs_of(leaf)?)?;
-    let wanted = edit.words(&edit.pairs_left(edit.member(1))?)?;
-    let fault = format!(in alloc; "it puts {put} above a fork in place of {wanted}");
-    edit.demand(put.as_str() == wanted.as_str(), fault)
+    let (put, wanted) = (edit.pairs_of(leaf)?, edit.pairs_left(edit.member(1))?);
+    let text = "it puts # above a fork in place of #";
+    let parts = [Pairs(&put), Pairs(&wanted)];
+    edit.demand(put.as_slice() == wanted.as_slice(), text, &parts)
 }
 
 /// A node is a fork that is not above all keys.
 fn check_low_fork(edit: &ClaimedEdit<'_>, node: u64) -> Result<(), Objection> {
-    let (alloc, head) = (edit.before.alloc, edit.head(node));
-    let fault = format!(in alloc; "n{node} is no fork of class 0");
-    edit.demand(!head.leaf && head.class == 0, fault)
+    let head = edit.head(node);
+    let text = "# is no fork of class 0";
+    edit.demand(!head.leaf && head.class == 0, text, &[Node(node)])
 }
 
 /// Its node at this place, the last, is node 2.
 fn check_guard(edit: &ClaimedEdit<'_>, place: u8) -> Result<(), Objection> {
-    let (alloc, last) = (edit.before.alloc, edit.member(place));
-    let fault = format!(in alloc; "its last node is n{last} in place of n2");
-    edit.demand(last == 2, fault)
+    let last = edit.member(place);
+    let text = "its last node is # in place of n2";
+    edit.demand(last == 2, text, &[Node(last)])
 }
 
 fn opposite(side: Side) -> Side {

@@ -1,6 +1,7 @@
 //! Which keys may stand where in a trie.
 use crate::breach::Objection;
 use crate::claimed_edit::ClaimedEdit;
+use crate::parts::Part::{Node, Number, Wide};
 use arena::Side;
 
 /// How many keys there are.
@@ -58,13 +59,11 @@ pub(crate) fn shares(edit: &ClaimedEdit<'_>, fork: u64, key: u64) -> bool {
 
 /// The key may stand below the first node, and what comes there keeps to the keys of that side.
 pub(crate) fn check_keys(edit: &ClaimedEdit<'_>) -> Result<(), Objection> {
-    let (alloc, key, fork) = (edit.before.alloc, edit.key, edit.member(0));
-    let (new, span) = (edit.new_node(), span_of(edit, fork));
-    let fault = format!(in alloc;
-        "key {key} may not stand below n{fork}, which parts those from {} to below {}",
-        span.low, span.high
-    );
-    edit.demand(shares(edit, fork, key), fault)?;
+    let (key, fork, new) = (edit.key, edit.member(0), edit.new_node());
+    let span = span_of(edit, fork);
+    let text = "key # may not stand below #, which parts those from # to below #";
+    let parts = [Number(key), Node(fork), Wide(span.low), Wide(span.high)];
+    edit.demand(shares(edit, fork, key), text, &parts)?;
     check_below(edit, fork, edit.toward(fork, key), new)?;
     if !edit.head(new).leaf {
         check_parted(edit, new)?;
@@ -83,13 +82,10 @@ fn check_below(edit: &ClaimedEdit<'_>, fork: u64, side: Side, node: u64) -> Resu
 
 /// A node is deeper than the fork above it.
 fn check_deeper(edit: &ClaimedEdit<'_>, fork: u64, node: u64) -> Result<(), Objection> {
-    let (alloc, above, level) = (
-        edit.before.alloc,
-        edit.head(fork).level,
-        edit.head(node).level,
-    );
-    let fault = format!(in alloc; "n{node} of level {level} comes below n{fork} of level {above}");
-    edit.demand(above < level, fault)
+    let (above, level) = (edit.head(fork).level, edit.head(node).level);
+    let text = "# of level # comes below # of level #";
+    let parts = [Node(node), Number(level), Node(fork), Number(above)];
+    edit.demand(above < level, text, &parts)
 }
 
 /// A node keeps to the keys of a fork's side: a fork with all that may stand below it, a leaf with
@@ -99,13 +95,19 @@ fn check_keeps(edit: &ClaimedEdit<'_>, fork: u64, side: Side, node: u64) -> Resu
     if head.leaf {
         return check_leaf_keeps(edit, fork, node, from, to);
     }
-    let (alloc, below) = (edit.before.alloc, span_of(edit, node));
-    let fault = format!(in alloc;
-        "n{node} parts the keys from {} to below {}, and on its side of n{fork} are those from {from} to below {to}",
-        below.low, below.high
-    );
+    let below = span_of(edit, node);
+    let text = "# parts the keys from # to below #, and on its side of # are those from # to \
+        below #";
+    let parts = [
+        Node(node),
+        Wide(below.low),
+        Wide(below.high),
+        Node(fork),
+        Wide(from),
+        Wide(to),
+    ];
     let keeps = head.class > 0 || (from <= below.low && below.high <= to);
-    edit.demand(keeps, fault)
+    edit.demand(keeps, text, &parts)
 }
 
 /// A leaf has its level, and no key but those from one to below another.
@@ -116,50 +118,50 @@ fn check_leaf_keeps(
     from: u128,
     to: u128,
 ) -> Result<(), Objection> {
-    let alloc = edit.before.alloc;
     check_leaf_level(edit, leaf)?;
     for (key, _) in edit.pairs_of(leaf)?.iter() {
-        let fault = format!(in alloc;
-            "n{leaf} has key {key}, and on its side of n{fork} are those from {from} to below {to}"
-        );
-        edit.demand(from <= u128::from(*key) && u128::from(*key) < to, fault)?;
+        let text = "# has key #, and on its side of # are those from # to below #";
+        let parts = [Node(leaf), Number(*key), Node(fork), Wide(from), Wide(to)];
+        edit.demand(
+            from <= u128::from(*key) && u128::from(*key) < to,
+            text,
+            &parts,
+        )?;
     }
     Ok(())
 }
 
 /// A leaf is on the last level; above all keys, on one of the first.
 fn check_leaf_level(edit: &ClaimedEdit<'_>, leaf: u64) -> Result<(), Objection> {
-    let (alloc, head) = (edit.before.alloc, edit.head(leaf));
+    let head = edit.head(leaf);
     let (level, class) = (head.level, u64::from(head.class));
-    let fault = format!(in alloc;
-        "n{leaf} has level {level}, and leaves above all keys have 1 or 2"
-    );
-    edit.demand(class == 0 || level.saturating_add(class) <= 3, fault)?;
-    let fault = format!(in alloc; "n{leaf} has level {level} in place of 66, that of leaves");
-    edit.demand(class > 0 || level == 66, fault)
+    let text = "# has level #, and leaves above all keys have 1 or 2";
+    let parts = [Node(leaf), Number(level)];
+    edit.demand(class == 0 || level.saturating_add(class) <= 3, text, &parts)?;
+    let text = "# has level # in place of 66, that of leaves";
+    edit.demand(class > 0 || level == 66, text, &[Node(leaf), Number(level)])
 }
 
 /// A fork is on the level of the lowest bit of its key; above all keys, on that of its class.
 fn check_parted(edit: &ClaimedEdit<'_>, fork: u64) -> Result<(), Objection> {
-    let (alloc, head) = (edit.before.alloc, edit.head(fork));
+    let head = edit.head(fork);
     let (level, class) = (head.level, u64::from(head.class));
-    let fault = format!(in alloc;
-        "n{fork} has level {level}, and a fork of class {class} has another"
-    );
     if class > 0 {
-        return edit.demand(level.saturating_add(class) == 2, fault);
+        let text = "# has level #, and a fork of class # has another";
+        let parts = [Node(fork), Number(level), Number(class)];
+        return edit.demand(level.saturating_add(class) == 2, text, &parts);
     }
-    let fault = format!(in alloc; "n{fork} has level {level}, and forks of class 0 have 2 to 65");
-    edit.demand(2 <= level && level <= 65, fault)?;
+    let text = "# has level #, and forks of class 0 have 2 to 65";
+    let parts = [Node(fork), Number(level)];
+    edit.demand(2 <= level && level <= 65, text, &parts)?;
     check_lowest_bit(edit, fork, level)
 }
 
 /// The lowest bit of a fork's key is that of its level.
 fn check_lowest_bit(edit: &ClaimedEdit<'_>, fork: u64, level: u64) -> Result<(), Objection> {
-    let (alloc, key, room) = (edit.before.alloc, edit.key_of(fork), room_at(level));
+    let (key, room) = (edit.key_of(fork), room_at(level));
     let has_it = u128::from(key).checked_rem(room.saturating_mul(2)) == Some(room);
-    let fault = format!(in alloc;
-        "n{fork} has level {level}, so the lowest bit of its key is {room}, and {key} has another"
-    );
-    edit.demand(has_it, fault)
+    let text = "# has level #, so the lowest bit of its key is #, and # has another";
+    let parts = [Node(fork), Number(level), Wide(room), Number(key)];
+    edit.demand(has_it, text, &parts)
 }

@@ -1,5 +1,6 @@
 //! What is named in more than one condition.
 use crate::lines_before::LinesBefore;
+use crate::map_before::MapPairs;
 use arena::{Kind, Layout, PassNo};
 use record::Entry;
 use script::{CommandText, kind_name};
@@ -23,16 +24,28 @@ pub(crate) fn call_words(before: &LinesBefore<'_>, pass: PassNo) -> Result<Strin
 }
 
 /// The nodes of a client's share, or its SCX-records.
-pub(crate) fn share_words(
-    alloc: Global,
+pub(crate) fn put_share(
+    text: &mut String,
     letter: &str,
     first: u32,
     many: u32,
-) -> Result<String, AllocError> {
+) -> Result<(), AllocError> {
     match first.saturating_add(many).checked_sub(1) {
-        Some(last) if many > 0 => format!(in alloc; "{letter}{first} to {letter}{last}"),
-        _ => String::from_str(alloc, "empty"),
+        Some(last) if many > 0 => write!(text, "{letter}{first} to {letter}{last}"),
+        _ => text.push_str("empty"),
     }
+}
+
+/// Pairs, as `pairs KEY VALUE KEY VALUE`.
+pub(crate) fn put_pairs(text: &mut String, pairs: &MapPairs) -> Result<(), AllocError> {
+    if pairs.is_empty() {
+        return text.push_str("no pair");
+    }
+    text.push_str("pairs")?;
+    for (key, value) in pairs.iter() {
+        write!(text, " {key} {value}")?;
+    }
+    Ok(())
 }
 
 /// The row of an entry.
