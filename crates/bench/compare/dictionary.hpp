@@ -654,34 +654,41 @@ private:
         return {End::contended, {}};
     }
 
-    // The last fork at which the walk of a key turns away from a side, in a trie of those that the key shares;
-    // the root where it never does.
-    template <Side SIDE>
-    [[gnu::always_inline]] static Node last_turn(Table table, Word key) {
-        Node turn = table.node(0);
+    // The walk of a key: the last fork at which it turns away from a side, in a trie of those that the key shares, or
+    // the root where it never does; the leaf where it ends; and whether the key shares the fork above that.
+    struct Walked {
+        Node turn;
         Found found;
-        found.leaf = turn;
+        bool sure;
+    };
+
+    template <Side SIDE>
+    [[gnu::always_inline]] static Walked walk_by_turns(Table table, Word key) {
+        Walked walked;
+        walked.turn = table.node(0);
+        walked.sure = true;
+        Found& found = walked.found;
+        found.leaf = walked.turn;
         for (;;) {
             found.head = Head(found.leaf.load(HEAD));
             Side side = LEFT_SIDE;
             if (found.head.parts()) {
                 const Word fork = found.leaf.load(KEY);
                 if (key >= fork) side = RIGHT_SIDE;
-                if (side != SIDE && (!BY_BITS || shares(fork, key))) turn = found.leaf;
+                walked.sure = !BY_BITS || shares(fork, key);
             } else if (found.head.leaf()) break;
-            else if (side != SIDE) turn = found.leaf;
+            else walked.sure = true;
+            if (side != SIDE && walked.sure) walked.turn = found.leaf;
             found.leaf = table.node(found.leaf.load(LEFT + side));
         }
         if (found.head.keyed()) find(found, key);
-        return turn;
+        return walked;
     }
 
-    // The pair of a leaf of class 0 that is next to a key on a side; of a leaf that is not the key's own
-    // the nearest.
+    // The pair that is next to a key on a side in the key's own leaf of class 0, which has so many pairs after its
+    // first.
     template <Side SIDE>
-    [[gnu::always_inline]] static std::optional<Pair> next_in(Node leaf, Word key, bool own) {
-        const Word more = own || SIDE == LEFT_SIDE ? leaf.load(MORE) : 0;
-        if (!own) return pair_at(leaf, SIDE == RIGHT_SIDE ? 0 : more);
+    [[gnu::always_inline]] static std::optional<Pair> next_among(Node leaf, Word key, Word more) {
         Word here = leaf.load(KEY), last = 0, index = 0;
         while (SIDE == RIGHT_SIDE ? here <= key : here < key) {
             last = here;
@@ -694,11 +701,25 @@ private:
         return Pair{here, value_at(leaf, index)};
     }
 
-    // One try of a successor, or on the left of a predecessor, but for the VLX. False where it is lost.
+    // The same of a leaf of class 0, whose count is loaded; of a leaf that is not the key's own the nearest.
+    template <Side SIDE>
+    [[gnu::always_inline]] static std::optional<Pair> next_in(Node leaf, Word key, bool own) {
+        const Word more = own || SIDE == LEFT_SIDE ? leaf.load(MORE) : 0;
+        if (!own) return pair_at(leaf, SIDE == RIGHT_SIDE ? 0 : more);
+        return next_among<SIDE>(leaf, key, more);
+    }
+
+    // One try of a successor, or on the left of a predecessor, but for the VLX. False where it is lost. In a trie the
+    // leaf where its walk ends may have the pair; then there is nothing to be validated.
     template <Side SIDE>
     [[gnu::always_inline]] static bool search(Table table, Word key, List<Look>& looks, std::optional<Pair>& found) {
         constexpr Side AWAY = SIDE == LEFT_SIDE ? RIGHT_SIDE : LEFT_SIDE;
-        Node node = last_turn<SIDE>(table, key);
+        const Walked walked = walk_by_turns<SIDE>(table, key);
+        if (BY_BITS && walked.sure && walked.found.head.keyed()) {
+            found = next_among<SIDE>(walked.found.leaf, key, walked.found.more);
+            if (found) return true;
+        }
+        Node node = walked.turn;
         Word beside = 0;
         Side side = node.number == 0 ? LEFT_SIDE : AWAY;
         Head head;
