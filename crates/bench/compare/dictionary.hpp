@@ -654,34 +654,39 @@ private:
         return {End::contended, {}};
     }
 
-    // The walk of a key: the last fork at which it turns away from a side, in a trie of those that the key shares, or
-    // the root where it never does; the leaf where it ends; and whether the key shares the fork above that.
+    // What the walk of a key has found: the last fork at which it turns away from a side, in a trie of those that the
+    // key shares, or the root where it never does; the leaf where it ends, and whether that may be asked for what is
+    // next to the key: in a trie, where it is of class 0 and the key shares the fork above it.
     struct Walked {
-        Node turn;
-        Found found;
-        bool sure;
+        Node turn, leaf;
+        Word more = 0;
+        bool asks = false;
     };
 
     template <Side SIDE>
     [[gnu::always_inline]] static Walked walk_by_turns(Table table, Word key) {
         Walked walked;
         walked.turn = table.node(0);
-        walked.sure = true;
-        Found& found = walked.found;
+        Found found;
         found.leaf = walked.turn;
+        bool counts = true;
         for (;;) {
             found.head = Head(found.leaf.load(HEAD));
             Side side = LEFT_SIDE;
             if (found.head.parts()) {
                 const Word fork = found.leaf.load(KEY);
                 if (key >= fork) side = RIGHT_SIDE;
-                walked.sure = !BY_BITS || shares(fork, key);
+                counts = !BY_BITS || shares(fork, key);
             } else if (found.head.leaf()) break;
-            else walked.sure = true;
-            if (side != SIDE && walked.sure) walked.turn = found.leaf;
+            else counts = true;
+            if (side != SIDE && counts) walked.turn = found.leaf;
             found.leaf = table.node(found.leaf.load(LEFT + side));
         }
-        if (found.head.keyed()) find(found, key);
+        if (!found.head.keyed()) return walked;
+        find(found, key);
+        walked.leaf = found.leaf;
+        walked.more = found.more;
+        walked.asks = BY_BITS && counts;
         return walked;
     }
 
@@ -715,8 +720,8 @@ private:
     [[gnu::always_inline]] static bool search(Table table, Word key, List<Look>& looks, std::optional<Pair>& found) {
         constexpr Side AWAY = SIDE == LEFT_SIDE ? RIGHT_SIDE : LEFT_SIDE;
         const Walked walked = walk_by_turns<SIDE>(table, key);
-        if (BY_BITS && walked.sure && walked.found.head.keyed()) {
-            found = next_among<SIDE>(walked.found.leaf, key, walked.found.more);
+        if (walked.asks) {
+            found = next_among<SIDE>(walked.leaf, key, walked.more);
             if (found) return true;
         }
         Node node = walked.turn;

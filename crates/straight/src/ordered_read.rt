@@ -538,11 +538,11 @@ fn search<S: TableShape, M: CallMachine<S>, R: Read + Drop>(
         → ReaderSearches r seat.old.me.0.passes run.now near children fork
         → ReaderWaits r seat.new.me.0.passes run.now (ReadNext.Look children 0 fork) }
 {
-    let mut now = near;
+    let mut current = near;
     loop {
-        let value = read::<S, M, Tree, ReadRun<R>>(hand, seat, now.word());
-        match now.found(value) {
-            NearNext::Load(next) => now = next,
+        let value = read::<S, M, Tree, ReadRun<R>>(hand, seat, current.word());
+        match current.found(value) {
+            NearNext::Load(next) => current = next,
             NearNext::Found(pair) => return Some(run.read.tell(pair)),
             NearNext::Nothing => return None,
         }
