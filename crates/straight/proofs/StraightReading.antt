@@ -1,5 +1,5 @@
 -- How ordered reads continue from seat to seat, of whatever machine reads.
-use Rattle.std.proofs.Common.{◌≡◌, ℕ, ◌∙◌, refl, sym, subst, arith, Result, Ok}
+use Rattle.std.proofs.Common.{◌≡◌, ◌+◌, ◌≤◌, ℕ, ◌∙◌, refl, sym, subst, arith, Result, Ok}
 use Rattle.atomic_table.specs.declared.shared.Seat.{Seat}
 use Rattle.arena.specs.declared.machine.Machine.{Ghosts as Machine}
 use Rattle.arena.specs.declared.machine.Shape.{Ghosts as Shape}
@@ -10,8 +10,14 @@ use Rattle.order.specs.declared.run.ReadRun.{ReadRun}
 use Rattle.straight.specs.declared.hand.Hand.{Hand}
 use Rattle.tables.specs.declared.memory.PassMemory.{PassMemory}
 use Rattle.tables.specs.declared.view.SeatView.{SeatView}
+use Rattle.histories.specs.Common.{Layout}
 use Rattle.straight.specs.declared.ordered_read.ReadStop.{ReadStop}
-use Rattle.straight.specs.StraightReads.{ReadEnds, ReadEndsFrom, ReadGoesOn}
+use Rattle.straight.specs.CallKinds.{Calls, calls}
+use Rattle.straight.specs.Hands.{hand_calls, names}
+use Rattle.straight.specs.Leads.{steps_made}
+use Rattle.straight.specs.StraightReads.{ReadEnds, ReadEndsFrom, ReadGoesOn, Reader, ReaderGoesOn, left_then}
+use Rattle.tables.specs.Slotted.{names_of_table}
+use Rattle.tables.specs.Traces.{shared_nodes}
 
 module _ {S T M R A B : Type 0} {s : Shape T} {m : Machine M T B} {left : M → PassMemory → Type 0} {means : ReadMeaning R A} {hand : Hand S} {old : Seat ℕ SeatView} {run : ReadRun R} where
   -- if the same comes next, it continues so
@@ -45,3 +51,19 @@ module _ {S T M R A B : Type 0} {s : Shape T} {m : Machine M T B} {left : M → 
     -- it continues, and ends
     pub reads_end : {fewer : ℕ} {between : Result ReadNext ReadStop} {second : Seat ℕ SeatView} {middle : ReadRun R} → ReadGoesOn s m left means hand fewer old run (Ok next) second middle between → ReadEndsFrom s m left means hand second middle between new now answer → ReadEnds s m left means hand old run next new now answer
     reads_end a b = record { table = (b.table.0 ∙ a.table.0, b.table.1 ∙ a.table.1, b.table.2 ∙ a.table.2); to = λ r x. b.to r (a.to r x); steps = (let p = a.steps in let q = b.steps in omega (arith, p, q)) }
+
+module _ {S T M R A B : Type 0} {s : Shape T} {m : Machine M T B} {left : M → PassMemory → Type 0} {means : ReadMeaning R A} {hand own : Hand S} {old new : Seat ℕ SeatView} {run now : ReadRun R} {fewer : ℕ} {next behind : Result ReadNext ReadStop} where
+  -- with a copy of the plan it continues as with the plan
+  pub reads_own : own.words ≡ hand.words → own.number ≡ hand.number → ReadGoesOn s m left means own fewer old run next new now behind → ReadGoesOn s m left means hand fewer old run next new now behind
+  reads_own words number x = record {
+    table = x.table;
+    to = subst (λ (c : Calls M). (r : Reader c means) → ReaderGoesOn r old.me.0.passes run next → ReaderGoesOn r new.me.0.passes now behind) same_calls x.to;
+    nearer = subst (λ (l : Layout). fewer + left_then means (shared_nodes l) now behind ≤ left_then means (shared_nodes l) run next) same_names x.nearer;
+    steps = subst (λ (l : Layout). steps_made new + left_then means (shared_nodes l) now behind ≤ steps_made old + left_then means (shared_nodes l) run next) same_names x.steps;
+  }
+    where
+      same_names : names own ≡ names hand
+      same_names i = names_of_table (words i).now.table.shared.key
+
+      same_calls : hand_calls s m left own ≡ hand_calls s m left hand
+      same_calls i = calls s m left (names_of_table (words i).now.table.shared.key) (number i)

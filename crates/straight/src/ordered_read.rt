@@ -460,22 +460,29 @@ fn go_on<S: TableShape, M: CallMachine<S>, R: Read + Drop>(
     ensures { ReadEnds S.Shape M.Machine M.left_dealt R.means hand.entry
         seat.old run.old first seat.new run.new result }
 {
-    let mut next = match look_next::<S, M, R>(hand, seat, run, first) {
+    let plan = *hand.plan;
+    let own = Hand {
+        words: hand.words,
+        plan: &plan,
+        number: hand.number,
+        size: hand.size,
+    };
+    let mut next = match look_next::<S, M, R>(own, seat, run, first) {
         Ok(next) => next,
         Err(stop) => return leave::<S, M, R>(hand, seat, run, stop),
     };
     loop {
         match next {
             ReadNext::Load(ReadLoad::Head { above, node }) => {
-                let behind = match read_node::<S, M, R>(hand, seat, run, above, node) {
+                let behind = match read_node::<S, M, R>(own, seat, run, above, node) {
                     Ok(behind) => behind,
                     Err(stop) => return leave::<S, M, R>(hand, seat, run, stop),
                 };
-                let behind = match read_pairs::<S, M, R>(hand, seat, run, behind) {
+                let behind = match read_pairs::<S, M, R>(own, seat, run, behind) {
                     Ok(behind) => behind,
                     Err(stop) => return leave::<S, M, R>(hand, seat, run, stop),
                 };
-                next = match look_next::<S, M, R>(hand, seat, run, behind) {
+                next = match look_next::<S, M, R>(own, seat, run, behind) {
                     Ok(after) => after,
                     Err(stop) => return leave::<S, M, R>(hand, seat, run, stop),
                 };

@@ -1,8 +1,8 @@
-use Rattle.std.proofs.Common.{◌∙◌, ap, arith, Ok}
+use Rattle.std.proofs.Common.{◌∙◌, ap, arith, refl, Ok}
 use Rattle.order.specs.declared.load.ReadLoad.TheVariants.{Head}
 use Rattle.order.specs.declared.read.ReadNext.TheVariants.{Load}
 use Rattle.straight.specs.StraightReads.{ReadGoesOn}
-use Rattle.straight.proofs.StraightReading.{reads_as, reads_end, reads_from, reads_on}
+use Rattle.straight.proofs.StraightReading.{reads_as, reads_end, reads_from, reads_on, reads_own}
 use Rattle.straight.proofs.ordered_read.go_on.Given.{Over}
 use Rattle.straight.proofs.ordered_read.go_on.Goals.{In-Load-Head}
 use Rattle.straight.proofs.ordered_read.go_on.Goals as goal
@@ -18,43 +18,43 @@ pub leave-requires-clause-stops : goal.leave-requires-clause-stops
 leave-requires-clause-stops g c = let w = c.requires.waits in (w.0, (c.in-Err.ensures).to w.0 w.1)
 
 pub returns-in-Err : goal.returns-in-Err
-returns-in-Err g c = reads_end (c.in-Err.ensures) c.leave.ensures
+returns-in-Err g c = reads_end (reads_own {hand = c.args.hand} refl refl c.in-Err.ensures) c.leave.ensures
 
 pub loop-next-init : goal.loop-next-init
-loop-next-init g c = record { goes_on = c.in-Ok.ensures }
+loop-next-init g c = record { goes_on = reads_own refl refl c.in-Ok.ensures }
 
 pub read_node-requires-clause-waits : goal.read_node-requires-clause-waits
 read_node-requires-clause-waits g c = let w = c.requires.waits in (w.0, (at_node g (goal.at.read_node-requires-clause-waits g c).In-Load-Head).to w.0 w.1)
 
 pub leave-requires-in-Err-read_node-clause-stops : goal.leave-requires-in-Err-read_node-clause-stops
-leave-requires-in-Err-read_node-clause-stops g c = let w = c.requires.waits in (w.0, (reads_on (at_node g (goal.at.leave-requires-in-Err-read_node-clause-stops g c).In-Load-Head) c.in-Err-read_node.ensures).to w.0 w.1)
+leave-requires-in-Err-read_node-clause-stops g c = let w = c.requires.waits in (w.0, (reads_on (at_node g (goal.at.leave-requires-in-Err-read_node-clause-stops g c).In-Load-Head) (reads_own refl refl c.in-Err-read_node.ensures)).to w.0 w.1)
 
 pub returns-in-Err-read_node : goal.returns-in-Err-read_node
-returns-in-Err-read_node g c = reads_end (reads_on (at_node g (goal.at.returns-in-Err-read_node g c).In-Load-Head) c.in-Err-read_node.ensures) c.leave-in-Err-read_node.ensures
+returns-in-Err-read_node g c = reads_end (reads_on (at_node g (goal.at.returns-in-Err-read_node g c).In-Load-Head) (reads_own refl refl c.in-Err-read_node.ensures)) c.leave-in-Err-read_node.ensures
 
 pub read_pairs-requires-clause-waits : goal.read_pairs-requires-clause-waits
-read_pairs-requires-clause-waits g c = let w = c.requires.waits in (w.0, (reads_on (at_node g (goal.at.read_pairs-requires-clause-waits g c).In-Load-Head) c.in-Ok-read_node.ensures).to w.0 w.1)
+read_pairs-requires-clause-waits g c = let w = c.requires.waits in (w.0, (reads_on (at_node g (goal.at.read_pairs-requires-clause-waits g c).In-Load-Head) (reads_own refl refl c.in-Ok-read_node.ensures)).to w.0 w.1)
 
 pub leave-requires-in-Err-read_pairs-clause-stops : goal.leave-requires-in-Err-read_pairs-clause-stops
-leave-requires-in-Err-read_pairs-clause-stops g c = let w = c.requires.waits in (w.0, (reads_on (at_node g (goal.at.leave-requires-in-Err-read_pairs-clause-stops g c).In-Load-Head) (reads_on c.in-Ok-read_node.ensures c.in-Err-read_pairs.ensures)).to w.0 w.1)
+leave-requires-in-Err-read_pairs-clause-stops g c = let w = c.requires.waits in (w.0, (reads_on (at_node g (goal.at.leave-requires-in-Err-read_pairs-clause-stops g c).In-Load-Head) (reads_on (reads_own refl refl c.in-Ok-read_node.ensures) (reads_own refl refl c.in-Err-read_pairs.ensures))).to w.0 w.1)
 
 pub returns-in-Err-read_pairs : goal.returns-in-Err-read_pairs
-returns-in-Err-read_pairs g c = reads_end (reads_on (at_node g (goal.at.returns-in-Err-read_pairs g c).In-Load-Head) (reads_on c.in-Ok-read_node.ensures c.in-Err-read_pairs.ensures)) c.leave-in-Err-read_pairs.ensures
+returns-in-Err-read_pairs g c = reads_end (reads_on (at_node g (goal.at.returns-in-Err-read_pairs g c).In-Load-Head) (reads_on (reads_own refl refl c.in-Ok-read_node.ensures) (reads_own refl refl c.in-Err-read_pairs.ensures))) c.leave-in-Err-read_pairs.ensures
 
 pub look_next-requires-in-Load-Head-clause-waits : goal.look_next-requires-in-Load-Head-clause-waits
-look_next-requires-in-Load-Head-clause-waits g c = let w = c.requires.waits in (w.0, (reads_on (at_node g (goal.at.look_next-requires-in-Load-Head-clause-waits g c).In-Load-Head) (reads_on c.in-Ok-read_node.ensures c.in-Ok-read_pairs.ensures)).to w.0 w.1)
+look_next-requires-in-Load-Head-clause-waits g c = let w = c.requires.waits in (w.0, (reads_on (at_node g (goal.at.look_next-requires-in-Load-Head-clause-waits g c).In-Load-Head) (reads_on (reads_own refl refl c.in-Ok-read_node.ensures) (reads_own refl refl c.in-Ok-read_pairs.ensures))).to w.0 w.1)
 
 pub leave-requires-in-Err-look_next-clause-stops : goal.leave-requires-in-Err-look_next-clause-stops
-leave-requires-in-Err-look_next-clause-stops g c = let w = c.requires.waits in (w.0, (reads_on (at_node g (goal.at.leave-requires-in-Err-look_next-clause-stops g c).In-Load-Head) (reads_on c.in-Ok-read_node.ensures (reads_on c.in-Ok-read_pairs.ensures c.in-Err-look_next.ensures))).to w.0 w.1)
+leave-requires-in-Err-look_next-clause-stops g c = let w = c.requires.waits in (w.0, (reads_on (at_node g (goal.at.leave-requires-in-Err-look_next-clause-stops g c).In-Load-Head) (reads_on (reads_own refl refl c.in-Ok-read_node.ensures) (reads_on (reads_own refl refl c.in-Ok-read_pairs.ensures) (reads_own refl refl c.in-Err-look_next.ensures)))).to w.0 w.1)
 
 pub returns-in-Err-look_next : goal.returns-in-Err-look_next
-returns-in-Err-look_next g c = reads_end (reads_on (at_node g (goal.at.returns-in-Err-look_next g c).In-Load-Head) (reads_on c.in-Ok-read_node.ensures (reads_on c.in-Ok-read_pairs.ensures c.in-Err-look_next.ensures))) c.leave-in-Err-look_next.ensures
+returns-in-Err-look_next g c = reads_end (reads_on (at_node g (goal.at.returns-in-Err-look_next g c).In-Load-Head) (reads_on (reads_own refl refl c.in-Ok-read_node.ensures) (reads_on (reads_own refl refl c.in-Ok-read_pairs.ensures) (reads_own refl refl c.in-Err-look_next.ensures)))) c.leave-in-Err-look_next.ensures
 
 pub loop-next-preserved : goal.loop-next-preserved
-loop-next-preserved g c = record { goes_on = reads_on (at_node g (goal.at.loop-next-preserved g c).In-Load-Head) (reads_on c.in-Ok-read_node.ensures (reads_on c.in-Ok-read_pairs.ensures c.in-Ok-look_next.ensures)) }
+loop-next-preserved g c = record { goes_on = reads_on (at_node g (goal.at.loop-next-preserved g c).In-Load-Head) (reads_on (reads_own refl refl c.in-Ok-read_node.ensures) (reads_on (reads_own refl refl c.in-Ok-read_pairs.ensures) (reads_own refl refl c.in-Ok-look_next.ensures))) }
 
 pub loop-next-smaller : goal.loop-next-smaller
-loop-next-smaller g c = let n = (reads_from (c.in-Load-Head.is ∙ ap Load (rw c.in-Load-Head.is at c.in-Load-Head.field-0-is)) (reads_on c.in-Ok-read_node.ensures (reads_on c.in-Ok-read_pairs.ensures c.in-Ok-look_next.ensures))).nearer in omega (arith, n)
+loop-next-smaller g c = let n = (reads_from (c.in-Load-Head.is ∙ ap Load (rw c.in-Load-Head.is at c.in-Load-Head.field-0-is)) (reads_on (reads_own {hand = c.args.hand} refl refl c.in-Ok-read_node.ensures) (reads_on (reads_own {hand = c.args.hand} refl refl c.in-Ok-read_pairs.ensures) (reads_own {hand = c.args.hand} refl refl c.in-Ok-look_next.ensures)))).nearer in omega (arith, n)
 
 pub rest-requires-clause-waits : goal.rest-requires-clause-waits
 rest-requires-clause-waits g c = let w = c.requires.waits in (w.0, c.loop-next.invariant.goes_on.to w.0 w.1)
