@@ -94,7 +94,8 @@ fn crowd<R: Threads + Sync>(
     )
 }
 
-/// All rounds of a thread.
+/// All rounds of a thread, in a function of its own.
+#[inline(never)]
 fn rounds(
     alloc: Global,
     forest: &Forest<Kept>,
@@ -119,7 +120,9 @@ fn rounds(
     tally
 }
 
-/// A round. If the share is used up the pass rests, and makes it once more.
+/// A round. If the share is used up the pass rests, and makes it once more. There is one place that
+/// makes it, so that it is put together as one on a dictionary that is filled once.
+#[inline(always)]
 fn make_round(
     alloc: Global,
     forest: &Forest<Kept>,
@@ -132,11 +135,13 @@ fn make_round(
     ensures pass { IsOf forest.now pass.new }
     ensures total { total tally.new ≡ total tally.old }
 {
-    match round(alloc, forest, work, pass, draw, tally) {
-        End::Fail => {
-            let _waits_for = forest.rest(pass);
-            round(alloc, forest, work, pass, draw, tally)
+    for _again in 0..2_u32 {
+        match round(alloc, forest, work, pass, draw, tally) {
+            End::Fail => {
+                let _waits_for = forest.rest(pass);
+            }
+            end => return end,
         }
-        end => end,
     }
+    End::Fail
 }
