@@ -1,7 +1,7 @@
 -- How the tries of an update continue from seat to seat, of whatever machine updates.
-use Rattle.std.proofs.Common.{◌≡◌, ℕ, List, Option, ◌<◌, ◌∙◌, refl, arith, Result}
+use Rattle.std.proofs.Common.{◌≡◌, ℕ, List, Option, ◌+◌, ◌≤◌, ◌<◌, ◌∙◌, refl, subst, arith, Result}
 use Rattle.atomic_table.specs.declared.shared.Seat.{Seat}
-use Rattle.histories.specs.Common.{Ghosts as Machine, NodeWord}
+use Rattle.histories.specs.Common.{Ghosts as Machine, Layout, NodeWord}
 use Rattle.arena.specs.declared.machine.Shape.{Ghosts as Shape}
 use Rattle.edits.specs.Edits.{EditMeaning}
 use Rattle.edits.specs.Next.{left_then}
@@ -16,8 +16,10 @@ use Rattle.tables.specs.declared.memory.PassMemory.{PassMemory}
 use Rattle.tables.specs.declared.view.SeatView.{SeatView}
 use Rattle.tables.specs.declared.view.SeatedPass.{SeatedPass}
 use Rattle.straight.specs.StraightUpdate.{FillGoesOn, TryGoesOn, Updater, UpdaterGoesOn, fills_then}
+use Rattle.straight.specs.CallKinds.{Calls, calls}
 use Rattle.straight.specs.Leads.{Leads, steps_made}
 use Rattle.straight.specs.Hands.{hand_calls, names}
+use Rattle.tables.specs.Slotted.{names_of_table}
 use Rattle.tables.specs.Traces.{shared_nodes}
 use Rattle.straight.proofs.StraightUpdate.{goes_as, through}
 
@@ -64,3 +66,19 @@ module _ {S T M A E : Type 0} {s : Shape T} {m : Machine M T A} {left : M → Pa
   -- with a step fewer words are left
   pub fills_nearer : FillGoesOn s m left e hand f run nth p old next new behind → steps_made old < steps_made new → fills_then p behind < fills_then p next
   fills_nearer a moves = let steps = a.steps in omega (arith, steps, moves)
+
+module _ {S T M A E : Type 0} {s : Shape T} {m : Machine M T A} {left : M → PassMemory → Type 0} {e : EditMeaning E} {hand own : Hand S} {f : Found} {B C : Type 0} {old new : Seat ℕ SeatView} {run : UpdateRun E B} {now : UpdateRun E C} {next behind : Result Next Stop} where
+  -- with a copy of the plan it continues as with the plan
+  pub tries_own : own.words ≡ hand.words → own.number ≡ hand.number → TryGoesOn s m left e own f old run next new now behind → TryGoesOn s m left e hand f old run next new now behind
+  tries_own words number x = record {
+    table = x.table;
+    to = subst (λ (c : Calls M). (u : Updater c e) → UpdaterGoesOn u old.me.0.passes run f next → UpdaterGoesOn u new.me.0.passes now f behind) same_calls x.to;
+    later = x.later;
+    steps = subst (λ (l : Layout). steps_made new + left_then e now f behind (shared_nodes l) ≤ steps_made old + left_then e run f next (shared_nodes l)) same_names x.steps;
+  }
+    where
+      same_names : names own ≡ names hand
+      same_names i = names_of_table (words i).now.table.shared.key
+
+      same_calls : hand_calls s m left own ≡ hand_calls s m left hand
+      same_calls i = calls s m left (names_of_table (words i).now.table.shared.key) (number i)

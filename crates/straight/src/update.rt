@@ -99,7 +99,7 @@ fn call<S: TableShape, M: CallMachine<S>, E: Edit + Copy>(
     try_on::<S, M, E>(hand, seat, run, &found, next)
 }
 
-/// Makes what a try does next and all after it.
+/// Makes what a try does next and all after it. Its steps go by a copy of the plan, as a loop's do.
 #[inline(always)]
 fn try_on<S: TableShape, M: CallMachine<S>, E: Edit + Copy>(
     hand: Hand<S>,
@@ -114,9 +114,16 @@ fn try_on<S: TableShape, M: CallMachine<S>, E: Edit + Copy>(
     ensures { TryEnds S.Shape M.Machine M.left_dealt E.means hand.entry found.now
         seat.old run.old next seat.new run.new result }
 {
-    let looked = look_on::<S, M, E>(hand, seat, run, found, next);
-    let loaded = read_on::<S, M, E>(hand, seat, run, found, looked);
-    let worked = fill_on::<S, M, E>(hand, seat, run, found, loaded);
+    let plan = *hand.plan;
+    let own = Hand {
+        words: hand.words,
+        plan: &plan,
+        number: hand.number,
+        size: hand.size,
+    };
+    let looked = look_on::<S, M, E>(own, seat, run, found, next);
+    let loaded = read_on::<S, M, E>(own, seat, run, found, looked);
+    let worked = fill_on::<S, M, E>(own, seat, run, found, loaded);
     match worked {
         Ok(now) => match now {
             Next::Change(scx) => change::<S, M, E>(hand, seat, run, found, scx),

@@ -1,9 +1,9 @@
-use Rattle.std.proofs.Common.{◌≡◌, ◌∙◌, ap, Result, Ok, Err}
+use Rattle.std.proofs.Common.{◌≡◌, ◌∙◌, ap, refl, Result, Ok, Err}
 use Rattle.straight.specs.StraightUpdate.{TryGoesOn}
 use Rattle.edits.specs.declared.update.Next.{Next}
 use Rattle.edits.specs.declared.update.Next.TheVariants.{Change}
 use Rattle.edits.specs.declared.update.Stop.{Stop}
-use Rattle.straight.proofs.StraightTries.{tries_as, tries_end, tries_on, tries_stop}
+use Rattle.straight.proofs.StraightTries.{tries_as, tries_end, tries_on, tries_own, tries_stop}
 use Rattle.straight.proofs.StraightUpdate.{ends_needless, ends_full}
 use Rattle.straight.proofs.update.try_on.Given.{Over}
 use Rattle.straight.proofs.update.try_on.Goals.{After-fill_on-worked}
@@ -11,13 +11,13 @@ use Rattle.straight.proofs.update.try_on.Goals as goal
 
 -- after its looks, loads and fills it continues so
 worked : (g : Over) (c : After-fill_on-worked g) (next : Result Next Stop) → c.fill_on-worked.result ≡ next → TryGoesOn g.S.Shape g.M.Machine g.M.CallMachine.left_dealt g.E.Edit.means c.args.hand c.args.found.now c.args.seat.now c.args.run.now c.args.next c.fill_on-worked.new.seat c.fill_on-worked.new.run next
-worked g c next is = tries_on c.look_on-looked.ensures (tries_on c.read_on-loaded.ensures (tries_on c.fill_on-worked.ensures (tries_as is)))
+worked g c next is = tries_on (tries_own refl refl c.look_on-looked.ensures) (tries_on (tries_own refl refl c.read_on-loaded.ensures) (tries_on (tries_own refl refl c.fill_on-worked.ensures) (tries_as is)))
 
 pub read_on-loaded-requires-clause-goes_on : goal.read_on-loaded-requires-clause-goes_on
 read_on-loaded-requires-clause-goes_on g c = let r = c.requires.goes_on in (r.0, c.look_on-looked.ensures.to r.0 r.1)
 
 pub fill_on-worked-requires-clause-goes_on : goal.fill_on-worked-requires-clause-goes_on
-fill_on-worked-requires-clause-goes_on g c = let r = c.requires.goes_on in (r.0, (tries_on c.look_on-looked.ensures c.read_on-loaded.ensures).to r.0 r.1)
+fill_on-worked-requires-clause-goes_on g c = let r = c.requires.goes_on in (r.0, (tries_on (tries_own {hand = c.args.hand} refl refl c.look_on-looked.ensures) (tries_own {hand = c.args.hand} refl refl c.read_on-loaded.ensures)).to r.0 r.1)
 
 pub change-requires-clause-tries : goal.change-requires-clause-tries
 change-requires-clause-tries g c = let r = c.requires.goes_on in (r.0, (worked g (goal.at.change-requires-clause-tries g c).After-fill_on-worked _ (c.in-Ok.is ∙ ap (λ n. Ok n) c.in-Change.is)).to r.0 r.1)
