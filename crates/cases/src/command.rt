@@ -15,7 +15,7 @@ use std::thread::Threads;
 use texts::Metered;
 
 /// What is done with one text or two.
-#[derive(Clone, Copy, Debug, PartialEq, Eq)]
+#[derive(Clone, Copy)]
 pub(crate) enum Action<'a> {
     /// To play a script by a schedule.
     Play(Mode),

@@ -7,7 +7,7 @@ use std::alloc::Global;
 use std::convert::AsStr;
 
 /// What the words ask for.
-#[derive(Clone, Copy, Debug, PartialEq, Eq)]
+#[derive(Clone, Copy)]
 pub(crate) enum Invocation<'a> {
     /// To play the calls of a script: on the tree, on a trie, or on cells.
     Play {

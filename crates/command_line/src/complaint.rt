@@ -6,7 +6,7 @@ use std::alloc::AllocError;
 use std::io::Write;
 
 /// Why it stops. What it says is a line, and its status is that of a `Fault` of the same kind.
-#[derive(Debug, Drop)]
+#[derive(Drop)]
 pub(crate) enum Complaint {
     /// An allocation was refused.
     NoMemory,

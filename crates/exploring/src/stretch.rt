@@ -3,7 +3,7 @@ use arena::PassNo;
 use std::alloc::{AllocError, Global};
 
 /// Turns of a client, one after another.
-#[derive(Clone, Copy, Debug, PartialEq, Eq)]
+#[derive(Clone, Copy)]
 pub(crate) struct Stretch {
     pub(crate) client: PassNo,
     pub(crate) turns: u32,

@@ -23,14 +23,14 @@ use script::{Call, Cell, Command};
 use std::alloc::Global;
 
 /// What a `set` does once its LLX has given a snapshot.
-#[derive(Clone, Copy, Debug, PartialEq, Eq)]
+#[derive(Clone, Copy)]
 struct SetField {
     side: Side,
     value: u64,
 }
 
 /// A call that has begun and has asked for a step.
-#[derive(Debug, Drop)]
+#[derive(Drop)]
 struct Running {
     run: Run,
     then: Option<SetField>,
@@ -38,7 +38,7 @@ struct Running {
 }
 
 /// How a client is before a turn.
-#[derive(Debug, Drop, PartialEq, Eq)]
+#[derive(Drop)]
 pub(crate) enum NextAction {
     /// It has no call left.
     Finished,
@@ -47,7 +47,7 @@ pub(crate) enum NextAction {
     Asks(Step),
 }
 
-#[derive(Debug, Drop)]
+#[derive(Drop)]
 pub(crate) struct Client {
     /// With what calls of the map grow.
     alloc: Global,

@@ -8,7 +8,7 @@ use prims::{Llx, Snap};
 use script::Cell;
 
 /// What the last LLX of a cell found.
-#[derive(Clone, Copy, Debug, PartialEq, Eq)]
+#[derive(Clone, Copy)]
 struct KeptSnapshot {
     scx: ScxNo,
     left: NodeNo,
@@ -16,7 +16,7 @@ struct KeptSnapshot {
 }
 
 /// The last snapshot of each cell, by the cell's number.
-#[derive(Debug, Drop)]
+#[derive(Drop)]
 pub(crate) struct Kept {
     found: [Option<KeptSnapshot>; 9],
     ghost nine: { length found ≡ 9 },

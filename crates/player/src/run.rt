@@ -15,7 +15,7 @@ use prims::{Cells, Llx, LlxRun, PutRun, Scx, Snaps, Vlx, VlxRun};
 use record::Answer;
 
 /// A call that has begun. A `set` is first an LLX and then an SCX.
-#[derive(Debug, Drop)]
+#[derive(Drop)]
 pub(crate) enum Run {
     Llx(LlxRun),
     Scx(PutRun),
@@ -25,7 +25,7 @@ pub(crate) enum Run {
 }
 
 /// What a machine answered.
-#[derive(Debug, Drop, PartialEq, Eq)]
+#[derive(Drop)]
 pub(crate) enum Ended {
     Llx(Llx),
     Scx(Scx),
