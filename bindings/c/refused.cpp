@@ -15,7 +15,7 @@
 static void rest(regnubas_pass *pass) {
     const long before = asked;
     uint32_t other = 0;
-    CHECK(regnubas_rest(pass, &other) == REGNUBAS_SOME);
+    CHECK(regnubas_rest(pass, &other) == REGNUBAS_NONE); // its whole share is left
     CHECK(regnubas_away(pass) == REGNUBAS_NONE && regnubas_back(pass) == REGNUBAS_NONE && asked == before);
 }
 

@@ -374,13 +374,19 @@ void one_that_lasts(decltype(regnubas_make) make) {
     uint32_t other = 9;
     CHECK(make(regnubas_limits{9, 9, 1}, passes, 2) == REGNUBAS_NONE);
     CHECK(regnubas_back(&passes[1]) == REGNUBAS_NO_PASS && is(regnubas_insert(&passes[1], 7, {70, 1}), REGNUBAS_NONE, ZERO));
+    CHECK(regnubas_rest(&passes[0], &other) == REGNUBAS_NONE); // its whole share is left
+    while (regnubas_left(&passes[0]).nodes > 1) CHECK(regnubas_insert(&passes[0], 5, ZERO).status <= REGNUBAS_SOME);
     CHECK(regnubas_rest(&passes[0], &other) == REGNUBAS_SOME && other == 1);
     CHECK(regnubas_away(&passes[1]) == REGNUBAS_NONE && regnubas_away(&passes[1]) == REGNUBAS_NO_PASS);
     CHECK(is(regnubas_get(&passes[1], 7), REGNUBAS_NO_PASS, ZERO) && regnubas_left(&passes[1]).nodes == 0);
     CHECK(regnubas_rest(&passes[1], &other) == REGNUBAS_NO_PASS && is(regnubas_close(&passes[1], pairs, 2), REGNUBAS_NO_PASS, 0));
-    for (uint64_t i = 0; i < 100; i++) { // shares of nine are enough, since they come back
-        CHECK(regnubas_insert(&passes[0], 5, {i, 1}).status <= REGNUBAS_SOME);
-        CHECK(regnubas_rest(&passes[0], &other) == REGNUBAS_NONE);
+    for (uint64_t i = 0; i < 100; i++) { // shares of nine are enough, since they come back a few rests later
+        regnubas_answer answer = regnubas_insert(&passes[0], 5, {i, 1});
+        for (int rests = 0; answer.status == REGNUBAS_FULL && rests < 4; rests++) {
+            CHECK(regnubas_rest(&passes[0], &other) == REGNUBAS_NONE);
+            answer = regnubas_insert(&passes[0], 5, {i, 1});
+        }
+        CHECK(answer.status == REGNUBAS_SOME);
     }
     CHECK(is(regnubas_end(passes, 2, pairs, 2), REGNUBAS_NO_PASS, 0));
     CHECK(regnubas_back(&passes[1]) == REGNUBAS_NONE && is(regnubas_get(&passes[1], 5), REGNUBAS_SOME, {99, 1}));
@@ -396,18 +402,17 @@ void one_that_lasts(decltype(regnubas_make) make) {
 }
 
 // A leaf of four pairs is one node, and what it replaced comes back: so there are more pairs than nodes.
-void more_pairs_than_nodes(decltype(regnubas_make) make, std::vector<uint64_t> keys) {
+void more_pairs_than_nodes() {
     regnubas_pass pass = {};
     std::vector<regnubas_pair> pairs(2 * 9);
     uint32_t other = 9;
-    CHECK(make(regnubas_limits{9, 64, 1}, &pass, 1) == REGNUBAS_NONE);
-    for (uint64_t key : keys) {
+    CHECK(regnubas_make_lasting_trie(regnubas_limits{9, 9, 1}, &pass, 1) == REGNUBAS_NONE);
+    for (uint64_t key = 0; key < 12; key++) {
         CHECK(is(regnubas_insert(&pass, key, value_of(key)), REGNUBAS_NONE, ZERO));
         for (int i = 0; i < 4; i++) CHECK(regnubas_rest(&pass, &other) == REGNUBAS_NONE);
     }
-    CHECK(is(regnubas_close(&pass, pairs.data(), pairs.size()), REGNUBAS_SOME, keys.size()));
-    std::sort(keys.begin(), keys.end());
-    for (uint64_t i = 0; i < keys.size(); i++) CHECK(has(pairs[i], keys[i], value_of(keys[i])));
+    CHECK(is(regnubas_close(&pass, pairs.data(), pairs.size()), REGNUBAS_SOME, 12));
+    for (uint64_t key = 0; key < 12; key++) CHECK(has(pairs[key], key, value_of(key)));
 }
 
 } // namespace
@@ -425,8 +430,7 @@ int main(int argc, char **argv) {
     renewals(regnubas_make_trie, 2);
     one_that_lasts(regnubas_make_lasting);
     one_that_lasts(regnubas_make_lasting_trie);
-    more_pairs_than_nodes(regnubas_make_lasting, {0, 8, 16, 24, 32, 1, 2, 17, 40, 18, 19, 25});
-    more_pairs_than_nodes(regnubas_make_lasting_trie, {0, 1, 2, 3, 4, 5, 6, 7, 8, 9, 10, 11});
+    more_pairs_than_nodes();
     for (int rounds = argc > 1 ? std::atoi(argv[1]) : 1; rounds > 0; rounds--) {
         keys_and_counter(regnubas_make, close_all);
         keys_and_counter(regnubas_make_trie, end_all);

@@ -57,8 +57,9 @@ impl OwnSlots {
         self.dealt.saturating_add(spare as u64)
     }
 
-    /// Whether its names are dealt up to this limit, and less than a quarter is left of the share.
+    /// Whether its names are dealt up to this limit, and less than a quarter is left of the share, or
+    /// fewer than the three that a call may need.
     pub fn is_short(&self, limit: u64, left: u32) -> bool {
-        self.dealt >= limit && (left as usize) < self.slots.len() / 4
+        self.dealt >= limit && (left as usize) < (self.slots.len() / 4).max(3)
     }
 }
