@@ -409,7 +409,7 @@ void more_pairs_than_nodes() {
     CHECK(regnubas_make_lasting_trie(regnubas_limits{9, 9, 1}, &pass, 1) == REGNUBAS_NONE);
     for (uint64_t key = 0; key < 12; key++) {
         CHECK(is(regnubas_insert(&pass, key, value_of(key)), REGNUBAS_NONE, ZERO));
-        for (int i = 0; i < 4; i++) CHECK(regnubas_rest(&pass, &other) == REGNUBAS_NONE);
+        for (int i = 0; i < 8; i++) CHECK(regnubas_rest(&pass, &other) == REGNUBAS_NONE);
     }
     CHECK(is(regnubas_close(&pass, pairs.data(), pairs.size()), REGNUBAS_SOME, 12));
     for (uint64_t key = 0; key < 12; key++) CHECK(has(pairs[key], key, value_of(key)));

@@ -212,7 +212,7 @@ void more_pairs_than_nodes() {
     auto passes = pass::make_lasting(1, {9, 9, 1}, regnubas::shape::trie);
     for (regnubas::key k = 0; k < 12; k++) {
         CHECK(!passes[0].insert(k, k));
-        for (int i = 0; i < 4; i++) passes[0].rest();
+        for (int i = 0; i < 8; i++) passes[0].rest();
     }
     CHECK(passes[0].close().size() == 12);
 }

@@ -322,7 +322,7 @@ def test_more_pairs_than_nodes():
     [one] = regnubas.make(threads=1, nodes=9, scx=9, trie=True, lasting=True)
     for key in range(12):
         one[key] = 50
-        for _ in range(4):
+        for _ in range(8):
             one.rest()
     assert one.close() == [(key, 50) for key in range(12)]
 

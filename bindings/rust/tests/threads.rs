@@ -217,7 +217,7 @@ fn more_pairs_than_nodes() {
     let mut pass = make_lasting_trie(1, Limits { nodes: 9, scx: 9, tries: 1 }).unwrap().remove(0);
     for key in 0..12 {
         assert_eq!(pass.insert(key, 50), Ok(None));
-        for _ in 0..4 {
+        for _ in 0..8 {
             pass.rest();
         }
     }
