@@ -165,6 +165,8 @@ class Pass(MutableMapping[int, int]):
         others; one of another dictionary waits for nobody.
 
         >>> one, other = make(threads=2, nodes=64, scx=64, lasting=True)
+        >>> one.rest() # its whole share is left
+        >>> one.update((5, time) for time in range(60))
         >>> one.rest(), other.away(), one.rest()
         (1, None, None)
         """

@@ -397,6 +397,10 @@ impl Pass {
     /// use regnubas::{make_lasting, Limits};
     ///
     /// let mut passes = make_lasting(2, Limits { nodes: 64, scx: 64, tries: 1 })?;
+    /// assert_eq!(passes[0].rest(), None); // its whole share is left
+    /// for time in 0..60 {
+    ///     passes[0].insert(5, time)?;
+    /// }
     /// assert_eq!(passes[0].rest(), Some(1));
     /// # Ok::<(), regnubas::Fault>(())
     /// ```
