@@ -14,23 +14,23 @@ use Rattle.capi.specs.declared.client.OwnedPass.{OwnedPass}
 use Rattle.capi.specs.declared.client.OwnedPass.TheVariants.{LastingTree, LastingTrie, Tree, Trie}
 use Rattle.capi.specs.Owned.{owner_of, pass_of}
 use Rattle.capi.specs.Presence.{here}
-use Rattle.capi.specs.declared.presence.Client.{Client}
-use Rattle.capi.specs.declared.presence.Client.TheVariants.{Away, Here, Nobody}
+use Rattle.capi.specs.declared.presence.Presence.{Presence}
+use Rattle.capi.specs.declared.presence.Presence.TheVariants.{Away, Here, Nobody}
 use Rattle.capi.specs.declared.handle.HandleSlot.{HandleSlot}
 use Rattle.capi.specs.Ends.{AreEnough, AreHeld, AreTooFew, IsIn, IsThere, held_in, pass_in}
 use Rattle.capi.specs.Handles.{pass_count}
 use Rattle.capi.specs.Made.{IsHeldOf}
 
 -- what a handle holds
-abbrev pub value_of : HandleSlot → Option Client
+abbrev pub value_of : HandleSlot → Option Presence
 value_of p = p.handle.value
 
 -- P holds of all that was gone through
-pub all_through : (P : Option Client → Type 0) (xs : List HandleSlot) (i : ℕ) → length xs ≤ i → All P (take i (held_in xs)) → All P (held_in xs)
+pub all_through : (P : Option Presence → Type 0) (xs : List HandleSlot) (i : ℕ) → length xs ≤ i → All P (take i (held_in xs)) → All P (held_in xs)
 all_through P xs i end all = All-same P (held_in xs) (take i (held_in xs)) (sym (take_all i (held_in xs) (subst (λ (n : ℕ). n ≤ i) (sym (length-map xs value_of)) end))) all
 
 -- a handle is written over by one for which P holds, too
-pub all_more : (P : Option Client → Type 0) (xs : List HandleSlot) (i : ℕ) (new : HandleSlot) → i < length xs → All P (take i (held_in xs)) → P new.handle.value → All P (take (i + 1) (held_in (set xs i new)))
+pub all_more : (P : Option Presence → Type 0) (xs : List HandleSlot) (i : ℕ) (new : HandleSlot) → i < length xs → All P (take i (held_in xs)) → P new.handle.value → All P (take (i + 1) (held_in (set xs i new)))
 all_more P xs i new inside before one =
     All-same P (take (i + 1) (held_in (set xs i new))) (take i (held_in xs) ++ new.handle.value ∷ [])
     (ap (take (i + 1)) (map-set value_of xs i new) ∙ take_more_set (held_in xs) i new.handle.value (subst (λ (n : ℕ). i < n) (sym (length-map xs value_of)) inside))
@@ -42,25 +42,25 @@ module _ (xs : List HandleSlot) (i : ℕ) (old new : HandleSlot) (is : old ≡ g
   kept same = map-set_same value_of xs i new old (same ∙ ap value_of is)
 
   -- what holds of all handles holds of what the one at i holds
-  pub one_of : (P : Option Client → Type 0) → i < length xs → All P (held_in xs) → P old.handle.value
+  pub one_of : (P : Option Presence → Type 0) → i < length xs → All P (held_in xs) → P old.handle.value
   one_of P inside all = subst P (get_or-map value_of xs i old old.handle.value inside ∙ ap value_of (sym is)) (all i old.handle.value (subst (λ (n : ℕ). i < n) (sym (length-map xs value_of)) inside))
 
 -- a handle that says how many passes there are holds one that is there
-pub told_held : (v : Option Client) (n : ℕ) → Some n ≡ option_map pass_count (here v) → IsThere v
+pub told_held : (v : Option Presence) (n : ℕ) → Some n ≡ option_map pass_count (here v) → IsThere v
 told_held (Some (Here c)) n told = refl
 told_held (Some (Away a)) n told = absurd (none-some n (sym told))
 told_held (Some Nobody) n told = absurd (none-some n (sym told))
 told_held None n told = absurd (none-some n (sym told))
 
 -- one that says nothing does not
-pub none_told : (v : Option Client) → None ≡ option_map pass_count (here v) → ¬ IsThere v
+pub none_told : (v : Option Presence) → None ≡ option_map pass_count (here v) → ¬ IsThere v
 none_told None told some = false≢true some
 none_told (Some (Away a)) told some = false≢true some
 none_told (Some Nobody) told some = false≢true some
 none_told (Some (Here c)) told some = none-some (pass_count c) told
 
 -- the dictionary of the first has this many
-pub told_of : (f : Ground) (v : Option Client) (n : ℕ) → Some n ≡ option_map pass_count (here v) → IsIn f v → IsHeldOf f v × (n ≡ f.layout.passes)
+pub told_of : (f : Ground) (v : Option Presence) (n : ℕ) → Some n ≡ option_map pass_count (here v) → IsIn f v → IsHeldOf f v × (n ≡ f.layout.passes)
 told_of f (Some (Here c)) n told in_f = (in_f, some_is (told ∙ ap (λ (g : Ground). Some g.layout.passes) in_f))
   where
     some_is : Some n ≡ Some f.layout.passes → n ≡ f.layout.passes
@@ -74,7 +74,7 @@ module _ (ys : List HandleSlot) (place : HandleSlot) (client : OwnedPass) (is : 
   pub listed : (passes : List PassView) → map pass_in (held_in ys) ≡ map Some passes → map pass_in (held_in (ys ++ place ∷ [])) ≡ map Some (passes ++ pass_of client ∷ [])
   listed passes are =
       ap (map pass_in) (map-append value_of ys (place ∷ [])) ∙ map-append pass_in (held_in ys) (place.handle.value ∷ [])
-      ∙ ap₂ (λ (l r : List (Option PassView)). l ++ r) are (ap (λ (v : Option Client). pass_in v ∷ []) (sym is)) ∙ sym (map-append Some passes (pass_of client ∷ []))
+      ∙ ap₂ (λ (l r : List (Option PassView)). l ++ r) are (ap (λ (v : Option Presence). pass_in v ∷ []) (sym is)) ∙ sym (map-append Some passes (pass_of client ∷ []))
 
   -- all of these and that one are of a forest
   pub of_both : (f : Ground) → All (IsIn f) (held_in (ys ++ place ∷ [])) → All (IsIn f) (held_in ys) × (arc_value (owner_of client) ≡ f)
@@ -91,7 +91,7 @@ module _ (ys : List HandleSlot) (place : HandleSlot) (client : OwnedPass) (is : 
   )
 
 -- a pass of a forest is there
-pub held_is_in : (f : Ground) (v : Option Client) → IsHeldOf f v → IsIn f v
+pub held_is_in : (f : Ground) (v : Option Presence) → IsHeldOf f v → IsIn f v
 held_is_in f (Some (Here c)) held = held
 held_is_in f (Some (Away a)) held = absurd held
 held_is_in f (Some Nobody) held = absurd held
@@ -118,7 +118,7 @@ of_own (LastingTree held) = held.of
 of_own (LastingTrie held) = held.of
 
 -- the pass that a handle of a forest holds is of that forest
-one_is_of : (f : Ground) (v : Option Client) (p : PassView) → pass_in v ≡ Some p → IsIn f v → IsOf f p
+one_is_of : (f : Ground) (v : Option Presence) (p : PassView) → pass_in v ≡ Some p → IsIn f v → IsOf f p
 one_is_of f (Some (Here c)) p is in_f = subst (IsOf f) (value_is is) (subst (λ (g : Ground). IsOf g (pass_of c)) in_f (of_own c))
   where
     value_is : Some (pass_of c) ≡ Some p → pass_of c ≡ p
@@ -128,7 +128,7 @@ one_is_of f (Some Nobody) p is in_f = absurd (none-some p is)
 one_is_of f None p is in_f = absurd (none-some p is)
 
 -- and so are those of all handles
-pub all_are_of : (f : Ground) (held : List (Option Client)) (passes : List PassView) → map pass_in held ≡ map Some passes → All (IsIn f) held → All (IsOf f) passes
+pub all_are_of : (f : Ground) (held : List (Option Presence)) (passes : List PassView) → map pass_in held ≡ map Some passes → All (IsIn f) held → All (IsOf f) passes
 all_are_of f held passes are in_f k d inside =
     let within : k < length held = subst (λ (n : ℕ). k < n) (sym (length-map passes Some) ∙ ap length (sym are) ∙ length-map held pass_in) inside in
     one_is_of f (get_or held k None) (get_or passes k d)

@@ -25,8 +25,8 @@ use Rattle.capi.specs.declared.answer.PassLimits.{PassLimits}
 use Rattle.capi.specs.declared.answer.Value.{Value}
 use Rattle.capi.specs.Owned.{in_trie, owner_of, pass_of}
 use Rattle.capi.specs.declared.client.OwnedPass.{OwnedPass}
-use Rattle.capi.specs.declared.presence.Client.{Client}
-use Rattle.capi.specs.declared.presence.Client.TheVariants.{Away, Here, Nobody}
+use Rattle.capi.specs.declared.presence.Presence.{Presence}
+use Rattle.capi.specs.declared.presence.Presence.TheVariants.{Away, Here, Nobody}
 use Rattle.capi.specs.declared.handle.HandleSlot.{HandleSlot}
 
 -- Statuses are numbers here, as C has them: 0 none, 1 some, 2 contended, 3 full, 4 no memory,
@@ -100,7 +100,7 @@ HasClientCalled old new = HasCalledIn (in_trie old) (λ k. k < 2 ^ 64) (λ k. k)
 -- what a handle held before and after a call, and what the call answered: with no pass, or one that
 -- is away, nothing is done, and it answers this; else the pass, which stays in its forest, has made
 -- this call
-abbrev pub CallSays : {A : Type 0} → A → (OwnedPass → OwnedPass → A → Type 0) → Option Client → Option Client → A → Type 0
+abbrev pub CallSays : {A : Type 0} → A → (OwnedPass → OwnedPass → A → Type 0) → Option Presence → Option Presence → A → Type 0
 CallSays no_pass made None after a = (after ≡ None) × (a ≡ no_pass)
 CallSays no_pass made (Some (Away gone)) after a = (after ≡ Some (Away gone)) × (a ≡ no_pass)
 CallSays no_pass made (Some Nobody) after a = (after ≡ Some Nobody) × (a ≡ no_pass)
@@ -130,7 +130,7 @@ abbrev pub BetweenSays : ℕ → ℕ → ℕ → List KeyValue → OwnedPass →
 BetweenSays low high most room old new a = (told : Result (Vec (ℕ × ℕ)) OrderFault) × IsCountOfRange told room a × HasClientCalled old new (Range low high most) (order_reply replies.Pairs told)
 
 -- what `left` answers
-abbrev pub LeftSays : Option Client → Left → Type 0
+abbrev pub LeftSays : Option Presence → Left → Type 0
 LeftSays None a = a ≡ record { nodes = 0; scx = 0 }
 LeftSays (Some (Away gone)) a = a ≡ record { nodes = 0; scx = 0 }
 LeftSays (Some Nobody) a = a ≡ record { nodes = 0; scx = 0 }
@@ -146,7 +146,7 @@ pub record HasClosed (c : OwnedPass) (room : List KeyValue) (a : Count) : Type 0
   pub put : StandIn (take (length room) pairs) room
 
 -- what `close` answers, and leaves in the handle and in its room
-abbrev pub CloseSays : Option Client → Option Client → List KeyValue → Count → Type 0
+abbrev pub CloseSays : Option Presence → Option Presence → List KeyValue → Count → Type 0
 CloseSays None after room a = (after ≡ None) × (a ≡ no_count 6)
 CloseSays (Some (Away gone)) after room a = (after ≡ Some (Away gone)) × (a ≡ no_count 6)
 CloseSays (Some Nobody) after room a = (after ≡ Some Nobody) × (a ≡ no_count 6)

@@ -21,8 +21,8 @@ use Rattle.capi.specs.declared.held.Held.{Held}
 use Rattle.capi.specs.declared.client.OwnedPass.{OwnedPass}
 use Rattle.capi.specs.declared.client.Closing.{Closing}
 use Rattle.capi.specs.declared.client.Closing.TheVariants.{Pairs, NoMemory, Shared}
-use Rattle.capi.specs.declared.presence.Client.{Client}
-use Rattle.capi.specs.declared.presence.Client.TheVariants.{Away, Here, Nobody}
+use Rattle.capi.specs.declared.presence.Presence.{Presence}
+use Rattle.capi.specs.declared.presence.Presence.TheVariants.{Away, Here, Nobody}
 
 -- the pairs are those of the map at the end of a lawful run, which extends what the pass knew;
 -- the pass itself has entered nothing more: what was added since is other passes'
@@ -75,13 +75,13 @@ IsClosing c NoMemory = Unit {0}
 IsClosing c (Shared d) = d ≡ c
 
 -- the same of what a handle leads to
-abbrev pub IsClosingHere : Client → Closing → Type 0
+abbrev pub IsClosingHere : Presence → Closing → Type 0
 IsClosingHere (Here c) told = IsClosing c told
 IsClosingHere (Away a) told = Unit {0}
 IsClosingHere Nobody told = Unit {0}
 
 -- why it cannot end its dictionary: others share it, or no pass is there
-abbrev pub IsRefusal : Client → Option ℕ → Type 0
+abbrev pub IsRefusal : Presence → Option ℕ → Type 0
 IsRefusal (Here c) told = IfSome told (λ n. n ≡ 7)
 IsRefusal (Away a) told = told ≡ Some 6
 IsRefusal Nobody told = told ≡ Some 6

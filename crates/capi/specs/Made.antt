@@ -11,12 +11,12 @@ use Rattle.tables.specs.LastingTables.{BeginsLasting}
 use Rattle.tables.specs.Passes.{Ground, PassView, AreNew}
 use Rattle.capi.specs.Owned.{owner_of, pass_of}
 use Rattle.capi.specs.Presence.{here}
-use Rattle.capi.specs.declared.presence.Client.{Client}
-use Rattle.capi.specs.declared.presence.Client.TheVariants.{Away, Here, Nobody}
+use Rattle.capi.specs.declared.presence.Presence.{Presence}
+use Rattle.capi.specs.declared.presence.Presence.TheVariants.{Away, Here, Nobody}
 use Rattle.capi.specs.declared.handle.HandleSlot.{HandleSlot}
 
 -- a pass is there, and its forest is this one
-abbrev pub IsHeldOf : Ground → Option Client → Type 0
+abbrev pub IsHeldOf : Ground → Option Presence → Type 0
 IsHeldOf f None = ⊥
 IsHeldOf f (Some (Here c)) = arc_value (owner_of c) ≡ f
 IsHeldOf f (Some (Away a)) = ⊥

@@ -13,8 +13,8 @@ use Rattle.capi.specs.declared.away.AwayPass.{AwayPass}
 use Rattle.capi.specs.declared.away.AwayPass.TheVariants as gone
 use Rattle.capi.specs.declared.client.OwnedPass.{OwnedPass}
 use Rattle.capi.specs.declared.client.OwnedPass.TheVariants as held
-use Rattle.capi.specs.declared.presence.Client.{Client}
-use Rattle.capi.specs.declared.presence.Client.TheVariants.{Away, Here, Nobody}
+use Rattle.capi.specs.declared.presence.Presence.{Presence}
+use Rattle.capi.specs.declared.presence.Presence.TheVariants.{Away, Here, Nobody}
 
 -- the owner of its forest that a pass has while it is away
 abbrev pub away_owner : AwayPass → Arc Ground Global
@@ -73,7 +73,7 @@ RestSays room old new status = (told : Option PassNo) × IsPassAnswer told room 
 
 -- what `away` answers, and leaves in the handle: the pass is away, if it was there and its
 -- dictionary lasts; else nothing is done
-abbrev pub AwaySays : Option Client → Option Client → ℕ → Type 0
+abbrev pub AwaySays : Option Presence → Option Presence → ℕ → Type 0
 AwaySays (Some (Here c)) (Some (Away a)) status = (status ≡ 0) × HasGoneAway c (Ok a)
 AwaySays (Some (Here c)) (Some (Here d)) status = (status ≡ 6) × HasGoneAway c (Err d)
 AwaySays (Some (Here c)) (Some Nobody) status = ⊥
@@ -84,7 +84,7 @@ AwaySays None after status = (after ≡ None) × (status ≡ 6)
 
 -- what `back` answers, and leaves in the handle: the pass is there, if it was away; else nothing is
 -- done
-abbrev pub BackSays : Option Client → Option Client → ℕ → Type 0
+abbrev pub BackSays : Option Presence → Option Presence → ℕ → Type 0
 BackSays (Some (Away a)) (Some (Here c)) status = (status ≡ 0) × IsBack a c
 BackSays (Some (Away a)) (Some (Away b)) status = ⊥
 BackSays (Some (Away a)) (Some Nobody) status = ⊥

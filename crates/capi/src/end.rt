@@ -11,7 +11,7 @@ use crate::client::OwnedPass;
 use crate::end_lasting::{end_lasting_tree, end_lasting_trie};
 use crate::handle::{Handle, HandleSlot};
 use crate::held::{Held, Numbers};
-use crate::presence::Client;
+use crate::presence::Presence;
 use regnubas::{ByBits, ByOrder, FilledOnce, Forest, NoMemory, Pass};
 use std::alloc::Global;
 use std::sync::Arc;
@@ -176,7 +176,7 @@ fn take_tree(
         let Some(client) = handle.into_box() else {
             return None;
         };
-        let Client::Here(own) = Box::into_inner(client) else {
+        let Presence::Here(own) = Box::into_inner(client) else {
             return None;
         };
         let OwnedPass::Tree(held) = own else {
@@ -231,7 +231,7 @@ fn take_trie(
         let Some(client) = handle.into_box() else {
             return None;
         };
-        let Client::Here(own) = Box::into_inner(client) else {
+        let Presence::Here(own) = Box::into_inner(client) else {
             return None;
         };
         let OwnedPass::Trie(held) = own else {

@@ -10,7 +10,7 @@ use crate::client::OwnedPass;
 use crate::end::take_out;
 use crate::handle::HandleSlot;
 use crate::held::{Held, Numbers};
-use crate::presence::Client;
+use crate::presence::Presence;
 use regnubas::{ByBits, ByOrder, Forest, Lasts, NoMemory, Pass};
 use std::alloc::Global;
 use std::sync::Arc;
@@ -81,7 +81,7 @@ fn take_lasting_tree(
         let Some(client) = handle.into_box() else {
             return None;
         };
-        let Client::Here(own) = Box::into_inner(client) else {
+        let Presence::Here(own) = Box::into_inner(client) else {
             return None;
         };
         let OwnedPass::LastingTree(held) = own else {
@@ -141,7 +141,7 @@ fn take_lasting_trie(
         let Some(client) = handle.into_box() else {
             return None;
         };
-        let Client::Here(own) = Box::into_inner(client) else {
+        let Presence::Here(own) = Box::into_inner(client) else {
             return None;
         };
         let OwnedPass::LastingTrie(held) = own else {

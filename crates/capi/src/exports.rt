@@ -31,7 +31,7 @@ use crate::end::{all_of, are_of_trie, end};
 use crate::handle::HandleSlot;
 use crate::lasting::open_lasting;
 use crate::open::open;
-use crate::presence::Client;
+use crate::presence::Presence;
 use arena::Mode;
 use regnubas::{Limits, NewFault};
 use std::alloc::Global;
@@ -207,8 +207,8 @@ pub extern "C" fn regnubas_get(alloc: Global, pass: &mut HandleSlot, key: u64) -
         return ValueAnswer::no_value(NO_PASS);
     };
     let answer = match &mut *client {
-        Client::Here(own) => ValueAnswer::of_value(own.get(key)),
-        Client::Away(_) | Client::Nobody => ValueAnswer::no_value(NO_PASS),
+        Presence::Here(own) => ValueAnswer::of_value(own.get(key)),
+        Presence::Away(_) | Presence::Nobody => ValueAnswer::no_value(NO_PASS),
     };
     pass.handle.put(client);
     answer
@@ -228,8 +228,8 @@ pub extern "C" fn regnubas_insert(
         return ValueAnswer::no_value(NO_PASS);
     };
     let answer = match &mut *client {
-        Client::Here(own) => ValueAnswer::of_update(own.insert(key, value.number())),
-        Client::Away(_) | Client::Nobody => ValueAnswer::no_value(NO_PASS),
+        Presence::Here(own) => ValueAnswer::of_update(own.insert(key, value.number())),
+        Presence::Away(_) | Presence::Nobody => ValueAnswer::no_value(NO_PASS),
     };
     pass.handle.put(client);
     answer
@@ -249,8 +249,8 @@ pub extern "C" fn regnubas_insert_new(
         return ValueAnswer::no_value(NO_PASS);
     };
     let answer = match &mut *client {
-        Client::Here(own) => ValueAnswer::of_update(own.insert_new(key, value.number())),
-        Client::Away(_) | Client::Nobody => ValueAnswer::no_value(NO_PASS),
+        Presence::Here(own) => ValueAnswer::of_update(own.insert_new(key, value.number())),
+        Presence::Away(_) | Presence::Nobody => ValueAnswer::no_value(NO_PASS),
     };
     pass.handle.put(client);
     answer
@@ -265,8 +265,8 @@ pub extern "C" fn regnubas_delete(alloc: Global, pass: &mut HandleSlot, key: u64
         return ValueAnswer::no_value(NO_PASS);
     };
     let answer = match &mut *client {
-        Client::Here(own) => ValueAnswer::of_update(own.delete(key)),
-        Client::Away(_) | Client::Nobody => ValueAnswer::no_value(NO_PASS),
+        Presence::Here(own) => ValueAnswer::of_update(own.delete(key)),
+        Presence::Away(_) | Presence::Nobody => ValueAnswer::no_value(NO_PASS),
     };
     pass.handle.put(client);
     answer
@@ -286,8 +286,8 @@ pub extern "C" fn regnubas_delete_if(
         return ValueAnswer::no_value(NO_PASS);
     };
     let answer = match &mut *client {
-        Client::Here(own) => ValueAnswer::of_update(own.delete_if(key, expected.number())),
-        Client::Away(_) | Client::Nobody => ValueAnswer::no_value(NO_PASS),
+        Presence::Here(own) => ValueAnswer::of_update(own.delete_if(key, expected.number())),
+        Presence::Away(_) | Presence::Nobody => ValueAnswer::no_value(NO_PASS),
     };
     pass.handle.put(client);
     answer
@@ -306,11 +306,11 @@ pub extern "C" fn regnubas_pop_first(
         return NO_PASS;
     };
     let status = match &mut *client {
-        Client::Here(own) => match own.pop_first() {
+        Presence::Here(own) => match own.pop_first() {
             Ok(taken) => tell_pair(taken, pair),
             Err(fault) => status_of_edit(fault),
         },
-        Client::Away(_) | Client::Nobody => NO_PASS,
+        Presence::Away(_) | Presence::Nobody => NO_PASS,
     };
     pass.handle.put(client);
     status
@@ -329,11 +329,11 @@ pub extern "C" fn regnubas_pop_last(
         return NO_PASS;
     };
     let status = match &mut *client {
-        Client::Here(own) => match own.pop_last() {
+        Presence::Here(own) => match own.pop_last() {
             Ok(taken) => tell_pair(taken, pair),
             Err(fault) => status_of_edit(fault),
         },
-        Client::Away(_) | Client::Nobody => NO_PASS,
+        Presence::Away(_) | Presence::Nobody => NO_PASS,
     };
     pass.handle.put(client);
     status
@@ -354,11 +354,11 @@ pub extern "C" fn regnubas_replace_if(
         return ValueAnswer::no_value(NO_PASS);
     };
     let answer = match &mut *client {
-        Client::Here(own) => {
+        Presence::Here(own) => {
             let told = own.replace_if(key, expected.number(), value.number());
             ValueAnswer::of_update(told)
         }
-        Client::Away(_) | Client::Nobody => ValueAnswer::no_value(NO_PASS),
+        Presence::Away(_) | Presence::Nobody => ValueAnswer::no_value(NO_PASS),
     };
     pass.handle.put(client);
     answer
@@ -378,11 +378,11 @@ pub extern "C" fn regnubas_successor(
         return NO_PASS;
     };
     let status = match &mut *client {
-        Client::Here(own) => match own.successor(alloc, key) {
+        Presence::Here(own) => match own.successor(alloc, key) {
             Ok(found) => tell_pair(found, pair),
             Err(fault) => status_of_read(fault),
         },
-        Client::Away(_) | Client::Nobody => NO_PASS,
+        Presence::Away(_) | Presence::Nobody => NO_PASS,
     };
     pass.handle.put(client);
     status
@@ -402,11 +402,11 @@ pub extern "C" fn regnubas_predecessor(
         return NO_PASS;
     };
     let status = match &mut *client {
-        Client::Here(own) => match own.predecessor(alloc, key) {
+        Presence::Here(own) => match own.predecessor(alloc, key) {
             Ok(found) => tell_pair(found, pair),
             Err(fault) => status_of_read(fault),
         },
-        Client::Away(_) | Client::Nobody => NO_PASS,
+        Presence::Away(_) | Presence::Nobody => NO_PASS,
     };
     pass.handle.put(client);
     status
@@ -427,8 +427,8 @@ pub extern "C" fn regnubas_range(
         return Count::none(NO_PASS);
     };
     let answer = match &mut *client {
-        Client::Here(own) => own.fill(alloc, low, high, room),
-        Client::Away(_) | Client::Nobody => Count::none(NO_PASS),
+        Presence::Here(own) => own.fill(alloc, low, high, room),
+        Presence::Away(_) | Presence::Nobody => Count::none(NO_PASS),
     };
     pass.handle.put(client);
     answer
@@ -444,8 +444,8 @@ pub extern "C" fn regnubas_rest(alloc: Global, pass: &mut HandleSlot, other: &mu
         return NO_PASS;
     };
     let status = match &mut *client {
-        Client::Here(own) => tell_pass(own.rest(), other),
-        Client::Away(_) | Client::Nobody => NO_PASS,
+        Presence::Here(own) => tell_pass(own.rest(), other),
+        Presence::Away(_) | Presence::Nobody => NO_PASS,
     };
     pass.handle.put(client);
     status
@@ -521,7 +521,7 @@ pub extern "C" fn regnubas_close(
     match Box::into_inner(client).close(alloc) {
         Closing::Pairs(pairs) => Count::of_pairs(pairs, room),
         Closing::NoMemory => Count::none(NO_MEMORY),
-        Closing::Shared(own) => match Box::new(alloc, Client::Here(own)) {
+        Closing::Shared(own) => match Box::new(alloc, Presence::Here(own)) {
             Ok(client) => {
                 pass.handle.put(client);
                 Count::none(SHARED)

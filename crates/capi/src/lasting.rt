@@ -14,7 +14,7 @@ ghost use Rattle.regnubas.specs.Balance.{map_mode};
 use crate::client::OwnedPass;
 use crate::handle::{Handle, HandleSlot};
 use crate::held::{Held, Numbers};
-use crate::presence::Client;
+use crate::presence::Presence;
 use regnubas::{ByBits, ByOrder, Forest, Lasts, Limits, NewFault, NoMemory, Pass};
 use std::alloc::Global;
 use std::sync::Arc;
@@ -91,7 +91,7 @@ fn hand_lasting_tree(
         pass,
         all,
     };
-    let client = Client::Here(OwnedPass::LastingTree(held));
+    let client = Presence::Here(OwnedPass::LastingTree(held));
     Ok(Handle::holding(Box::new(alloc, client)?))
 }
 
@@ -149,6 +149,6 @@ fn hand_lasting_trie(
         pass,
         all,
     };
-    let client = Client::Here(OwnedPass::LastingTrie(held));
+    let client = Presence::Here(OwnedPass::LastingTrie(held));
     Ok(Handle::holding(Box::new(alloc, client)?))
 }

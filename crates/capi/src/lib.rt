@@ -22,4 +22,4 @@ pub use away::AwayPass;
 pub use client::{Closing, OwnedPass};
 pub use handle::{Handle, HandleSlot};
 pub use held::{Held, HeldAway, Numbers};
-pub use presence::Client;
+pub use presence::Presence;

@@ -14,7 +14,7 @@ ghost use Rattle.regnubas.specs.Balance.{map_mode};
 use crate::client::OwnedPass;
 use crate::handle::{Handle, HandleSlot};
 use crate::held::{Held, Numbers};
-use crate::presence::Client;
+use crate::presence::Presence;
 use regnubas::{ByBits, ByOrder, Forest, Limits, NewFault, NoMemory, Pass};
 use std::alloc::Global;
 use std::sync::Arc;
@@ -86,7 +86,7 @@ fn hand_tree(
         pass,
         all,
     };
-    let client = Client::Here(OwnedPass::Tree(held));
+    let client = Presence::Here(OwnedPass::Tree(held));
     Ok(Handle::holding(Box::new(alloc, client)?))
 }
 
@@ -144,6 +144,6 @@ fn hand_trie(
         pass,
         all,
     };
-    let client = Client::Here(OwnedPass::Trie(held));
+    let client = Presence::Here(OwnedPass::Trie(held));
     Ok(Handle::holding(Box::new(alloc, client)?))
 }

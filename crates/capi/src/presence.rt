@@ -10,14 +10,14 @@ use std::mem::replace;
 
 /// What a handle leads to.
 #[derive(Drop)]
-pub enum Client {
+pub enum Presence {
     Here(OwnedPass),
     Away(AwayPass),
     /// Only while a pass goes away, or comes back.
     Nobody,
 }
 
-impl Client {
+impl Presence {
     ghost use Rattle.capi.specs.Answers.{LeftSays};
     ghost use Rattle.capi.specs.Handles.{holds_lasting, holds_trie, pass_count};
     ghost use Rattle.capi.specs.Left.{IsClosingHere, IsRefusal};
@@ -29,8 +29,8 @@ impl Client {
         ensures { result ≡ option_map pass_count (here (Some self.now)) }
     {
         match self {
-            Client::Here(pass) => Some(pass.all()),
-            Client::Away(_) | Client::Nobody => None,
+            Presence::Here(pass) => Some(pass.all()),
+            Presence::Away(_) | Presence::Nobody => None,
         }
     }
 
@@ -39,8 +39,8 @@ impl Client {
         ensures { result ≡ holds_trie (Some self.now) }
     {
         match self {
-            Client::Here(pass) => pass.is_trie(),
-            Client::Away(_) | Client::Nobody => false,
+            Presence::Here(pass) => pass.is_trie(),
+            Presence::Away(_) | Presence::Nobody => false,
         }
     }
 
@@ -49,8 +49,8 @@ impl Client {
         ensures { result ≡ holds_lasting (Some self.now) }
     {
         match self {
-            Client::Here(pass) => pass.lasts(),
-            Client::Away(_) | Client::Nobody => false,
+            Presence::Here(pass) => pass.lasts(),
+            Presence::Away(_) | Presence::Nobody => false,
         }
     }
 
@@ -59,11 +59,11 @@ impl Client {
         ensures { LeftSays (Some self.now) result }
     {
         match self {
-            Client::Here(pass) => {
+            Presence::Here(pass) => {
                 let (nodes, scx) = pass.left();
                 Left { nodes, scx }
             }
-            Client::Away(_) | Client::Nobody => Left { nodes: 0, scx: 0 },
+            Presence::Away(_) | Presence::Nobody => Left { nodes: 0, scx: 0 },
         }
     }
 
@@ -73,9 +73,9 @@ impl Client {
         ensures none { IfNone result (IsHere self.now) }
     {
         match self {
-            Client::Here(pass) if pass.is_last() => None,
-            Client::Here(_) => Some(SHARED),
-            Client::Away(_) | Client::Nobody => Some(NO_PASS),
+            Presence::Here(pass) if pass.is_last() => None,
+            Presence::Here(_) => Some(SHARED),
+            Presence::Away(_) | Presence::Nobody => Some(NO_PASS),
         }
     }
 
@@ -85,8 +85,8 @@ impl Client {
         ensures { IsClosingHere self result }
     {
         match self {
-            Client::Here(pass) => pass.close(alloc),
-            Client::Away(_) | Client::Nobody => unreachable!(),
+            Presence::Here(pass) => pass.close(alloc),
+            Presence::Away(_) | Presence::Nobody => unreachable!(),
         }
     }
 
@@ -94,9 +94,9 @@ impl Client {
     /// it.
     pub(crate) fn leave(self) {
         match self {
-            Client::Here(pass) => drop(pass.away()),
-            Client::Away(away) => drop(away),
-            Client::Nobody => {}
+            Presence::Here(pass) => drop(pass.away()),
+            Presence::Away(away) => drop(away),
+            Presence::Nobody => {}
         }
     }
 
@@ -104,22 +104,22 @@ impl Client {
     pub(crate) fn go_away(&mut self) -> u32
         ensures { AwaySays (Some self.old) (Some self.new) result }
     {
-        match replace(self, Client::Nobody) {
-            Client::Here(pass) => match pass.away() {
+        match replace(self, Presence::Nobody) {
+            Presence::Here(pass) => match pass.away() {
                 Ok(away) => {
-                    *self = Client::Away(away);
+                    *self = Presence::Away(away);
                     NONE
                 }
                 Err(pass) => {
-                    *self = Client::Here(pass);
+                    *self = Presence::Here(pass);
                     NO_PASS
                 }
             },
-            Client::Away(away) => {
-                *self = Client::Away(away);
+            Presence::Away(away) => {
+                *self = Presence::Away(away);
                 NO_PASS
             }
-            Client::Nobody => NO_PASS,
+            Presence::Nobody => NO_PASS,
         }
     }
 
@@ -127,16 +127,16 @@ impl Client {
     pub(crate) fn come_back(&mut self) -> u32
         ensures { BackSays (Some self.old) (Some self.new) result }
     {
-        match replace(self, Client::Nobody) {
-            Client::Away(away) => {
-                *self = Client::Here(away.back());
+        match replace(self, Presence::Nobody) {
+            Presence::Away(away) => {
+                *self = Presence::Here(away.back());
                 NONE
             }
-            Client::Here(pass) => {
-                *self = Client::Here(pass);
+            Presence::Here(pass) => {
+                *self = Presence::Here(pass);
                 NO_PASS
             }
-            Client::Nobody => NO_PASS,
+            Presence::Nobody => NO_PASS,
         }
     }
 }

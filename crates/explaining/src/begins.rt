@@ -1,7 +1,7 @@
 //! What is asked of an SCX-record that begins, which is where its first node is frozen for it.
 use crate::breach::Objection;
+use crate::details::Detail::{Client, Named, Node, Number, Scx};
 use crate::lines_before::LinesBefore;
-use crate::parts::Part::{Client, Named, Node, Number, Scx};
 use crate::steps::{AFTER, CLIENT};
 use arena::{Kind, NodeNo, NodeWord, Row, ScxNo, ScxWord, Side, Word};
 
@@ -9,8 +9,8 @@ use arena::{Kind, NodeNo, NodeWord, Row, ScxNo, ScxWord, Side, Word};
 pub(crate) fn check_beginning(before: &LinesBefore<'_>, row: &Row) -> Result<(), Objection> {
     let scx = row.after;
     let text = "# does not own #, so it does not begin it";
-    let parts = [Client(row.pass), Scx(scx)];
-    before.demand(before.owns_scx(row.pass, scx), CLIENT, text, &parts)?;
+    let details = [Client(row.pass), Scx(scx)];
+    before.demand(before.owns_scx(row.pass, scx), CLIENT, text, &details)?;
     check_plan(before, scx)?;
     for place in 0..before.plan(scx).count() {
         check_node(before, scx, place)?;
@@ -31,15 +31,15 @@ fn check_node(before: &LinesBefore<'_>, scx: u64, place: u8) -> Result<(), Objec
     let node = before.member(scx, place);
     let text = "v# of # is #, and there is no such node";
     let nodes = u64::from(before.judge.layout().all_nodes());
-    let parts = [Number(u64::from(place)), Scx(scx), Number(node)];
-    before.demand(node < nodes, AFTER, text, &parts)?;
+    let details = [Number(u64::from(place)), Scx(scx), Number(node)];
+    before.demand(node < nodes, AFTER, text, &details)?;
     let text = "# covers # twice";
-    let parts = [Scx(scx), Node(node)];
+    let details = [Scx(scx), Node(node)];
     before.demand(
         before.place_of(scx, node) == Some(place),
         AFTER,
         text,
-        &parts,
+        &details,
     )?;
     check_at_rest(before, scx, place)
 }
@@ -49,21 +49,21 @@ fn check_at_rest(before: &LinesBefore<'_>, scx: u64, place: u8) -> Result<(), Ob
     let (node, number) = (before.member(scx, place), Number(u64::from(place)));
     let seen = before.scx_word(scx, ScxWord::Seen(place));
     let text = "i# of # is #, which is in progress";
-    let parts = [number, Scx(scx), Scx(seen)];
+    let details = [number, Scx(scx), Scx(seen)];
     before.demand(
         before.scx_word(seen, ScxWord::State) != 0,
         AFTER,
         text,
-        &parts,
+        &details,
     )?;
     let is_marked = before.node_word(node, NodeWord::Marked) != 0;
     let text = "# is marked, and its info is still i# of #";
-    let parts = [Node(node), number, Scx(scx)];
+    let details = [Node(node), number, Scx(scx)];
     before.demand(
         !before.is_as_seen(scx, place) || !is_marked,
         AFTER,
         text,
-        &parts,
+        &details,
     )
 }
 
@@ -73,12 +73,12 @@ fn check_field(before: &LinesBefore<'_>, scx: u64) -> Result<(), Objection> {
     let field = field_of(before, scx);
     let (held, old) = (before.judge.get(field), before.scx_word(scx, ScxWord::Old));
     let text = "# holds #, in place of #, the word old of #";
-    let parts = [Named(field), Number(held), Number(old), Scx(scx)];
+    let details = [Named(field), Number(held), Number(old), Scx(scx)];
     before.demand(
         !before.is_as_seen(scx, at) || held == old,
         AFTER,
         text,
-        &parts,
+        &details,
     )
 }
 
@@ -95,11 +95,16 @@ fn check_new(before: &LinesBefore<'_>, row: &Row) -> Result<(), Objection> {
     let scx = row.after;
     let new = before.scx_word(scx, ScxWord::New);
     let text = "new of # is #, which is not of #'s share";
-    let parts = [Scx(scx), Node(new), Client(row.pass)];
-    before.demand(before.owns_node(row.pass, new), AFTER, text, &parts)?;
+    let details = [Scx(scx), Node(new), Client(row.pass)];
+    before.demand(before.owns_node(row.pass, new), AFTER, text, &details)?;
     let text = "new of # is #, which a field has held already";
-    let parts = [Scx(scx), Node(new)];
-    before.demand(!before.judge.is_in_field(NodeNo(new)), AFTER, text, &parts)?;
+    let details = [Scx(scx), Node(new)];
+    before.demand(
+        !before.judge.is_in_field(NodeNo(new)),
+        AFTER,
+        text,
+        &details,
+    )?;
     check_unused(before, scx, new)
 }
 

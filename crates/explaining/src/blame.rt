@@ -1,7 +1,7 @@
 //! SCX-records that were in the way of a call.
 use crate::breach::Objection;
+use crate::details::Detail::{Node, Scx, Text};
 use crate::lines_before::LinesBefore;
-use crate::parts::Part::{Node, Scx, Text};
 use crate::replies::ANSWER;
 use crate::words::name_of;
 use arena::{Kind, NodeNo, NodeWord, ScxNo, ScxWord, Word};
@@ -20,15 +20,15 @@ pub(crate) fn check_blame(
     let is_another = owner.is_some() && owner != Some(reply.client);
     before.demand(is_another, ANSWER, text, &[Scx(scx)])?;
     let text = "# does not cover #";
-    let parts = [Scx(scx), Node(node)];
-    before.demand(before.place_of(scx, node).is_some(), ANSWER, text, &parts)?;
+    let details = [Scx(scx), Node(node)];
+    before.demand(before.place_of(scx, node).is_some(), ANSWER, text, &details)?;
     let text = "# has not begun, so it was in nobody's way";
-    let parts = [Scx(scx)];
+    let details = [Scx(scx)];
     before.demand(
         before.was_frozen(before.member(scx, 0), scx),
         ANSWER,
         text,
-        &parts,
+        &details,
     )
 }
 
@@ -73,12 +73,12 @@ pub(crate) fn check_failed(
     let first = before.client(reply.client).first;
     check_since(before, scx, first, "the call began")?;
     let text = "# is in progress, and the call has not helped it";
-    let parts = [Scx(scx.0)];
+    let details = [Scx(scx.0)];
     before.demand(
         before.scx_word(scx.0, ScxWord::State) != 0,
         ANSWER,
         text,
-        &parts,
+        &details,
     )?;
     let text = "# was final when the call began";
     Err(before.object(ANSWER, text, &[Node(node.0)]))

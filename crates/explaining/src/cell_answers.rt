@@ -1,9 +1,9 @@
 //! Answers of calls of cells.
 use crate::blame::{check_blame, check_failed, check_met};
 use crate::breach::Objection;
+use crate::details::Detail::{Node, Number};
 use crate::lines_before::LinesBefore;
 use crate::map_answers::{check_left, check_moment_is, check_no_moment};
-use crate::parts::Part::{Node, Number};
 use crate::replies::ANSWER;
 use arena::{Full, Kind, NodeNo, NodeWord, PassNo, ScxNo, Side};
 use record::{Answer, Finished};
@@ -79,14 +79,14 @@ fn check_snapshot(
         before.node_word(cell.0, NodeWord::Child(Side::Right)),
     );
     let text = "snap # # in place of snap # #, the fields of #";
-    let parts = [
+    let details = [
         Number(left.0),
         Number(right.0),
         Number(held.0),
         Number(held.1),
         Node(cell.0),
     ];
-    before.demand(held == (left.0, right.0), ANSWER, text, &parts)
+    before.demand(held == (left.0, right.0), ANSWER, text, &details)
 }
 
 fn check_final(before: &LinesBefore<'_>, command: &Command) -> Result<(), Objection> {

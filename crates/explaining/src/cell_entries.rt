@@ -1,8 +1,8 @@
 //! Entries of calls of cells.
 use crate::begins::field_of;
 use crate::breach::Objection;
+use crate::details::Detail::{Call, Node, Number, Scx};
 use crate::lines_before::LinesBefore;
-use crate::parts::Part::{Call, Node, Number, Scx};
 use crate::stores::finalizes;
 use arena::{NodeWord, ScxWord, SettledPart, Side, Slot, Word};
 use record::Entry;
@@ -61,13 +61,13 @@ fn check_put(
     let text = "# changes another field than #";
     let (cell, side) = field;
     let wanted = Word::Node(cell.node(), NodeWord::Child(side));
-    let parts = [Scx(scx), Call(entry.client)];
-    before.demand(field_of(before, scx) == wanted, SCX, text, &parts)?;
+    let details = [Scx(scx), Call(entry.client)];
+    before.demand(field_of(before, scx) == wanted, SCX, text, &details)?;
     let new = before.scx_word(scx, ScxWord::New);
     let stored = before.node_word(new, NodeWord::Settled(SettledPart::Value(Slot::First)));
     let text = "#, which # puts there, has the value # in place of #";
-    let parts = [Node(new), Scx(scx), Number(stored), Number(value)];
-    before.demand(stored == value, SCX, text, &parts)?;
+    let details = [Node(new), Scx(scx), Number(stored), Number(value)];
+    before.demand(stored == value, SCX, text, &details)?;
     check_fresh(before, entry, new)
 }
 
@@ -77,6 +77,6 @@ fn check_fresh(before: &LinesBefore<'_>, entry: &Entry, new: u64) -> Result<(), 
     let left = before.node_word(new, NodeWord::Child(Side::Left));
     let right = before.node_word(new, NodeWord::Child(Side::Right));
     let text = "#, which # puts there, is no cell of the client's share with two empty fields";
-    let parts = [Node(new), Scx(entry.scx.0)];
-    before.demand(is_own && left == 0 && right == 0, SCX, text, &parts)
+    let details = [Node(new), Scx(entry.scx.0)];
+    before.demand(is_own && left == 0 && right == 0, SCX, text, &details)
 }

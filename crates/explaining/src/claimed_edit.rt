@@ -1,8 +1,8 @@
 //! An SCX-record that begins for an edit of the map.
 use crate::breach::Objection;
+use crate::details::Detail::{self, Call, Node, Number, Pairs, Scx, Text};
 use crate::lines_before::LinesBefore;
 use crate::map_before::{MapPairs, leave, value_of};
-use crate::parts::Part::{self, Call, Node, Number, Pairs, Scx, Text};
 use crate::steps::AFTER;
 use arena::{Head, Mode, NodeWord, PassNo, ScxWord, SettledPart, Side, Slot};
 use ordered_map::{Goal, Rule, wide_value};
@@ -28,14 +28,14 @@ impl ClaimedEdit<'_> {
         &self,
         fits: bool,
         words: &str,
-        parts: &[Part<'_>],
+        details: &[Detail<'_>],
     ) -> Result<(), Objection> {
         if fits {
             return Ok(());
         }
-        let text = self.before.text_of(words, parts)?;
-        let parts = [Scx(self.scx), Call(self.client), Text(text.as_str())];
-        Err(self.before.object(AFTER, "# begins for #: #", &parts))
+        let text = self.before.text_of(words, details)?;
+        let details = [Scx(self.scx), Call(self.client), Text(text.as_str())];
+        Err(self.before.object(AFTER, "# begins for #: #", &details))
     }
 
     /// Its plan and its first node are as `check_field` says, and `old` is its second node.
@@ -64,14 +64,14 @@ impl ClaimedEdit<'_> {
     fn check_plan(&self, wanted: u64, does: &str) -> Result<(), Objection> {
         let plan = self.before.plan(self.scx).0;
         let text = "its plan is # in place of #, which # and changes the field of # towards #";
-        let parts = [
+        let details = [
             Number(plan),
             Number(wanted),
             Text(does),
             Node(self.member(0)),
             Number(self.key),
         ];
-        self.demand(plan == wanted, text, &parts)
+        self.demand(plan == wanted, text, &details)
     }
 
     /// A node is a leaf, with at most four pairs if these are below all that is above all keys.
@@ -80,8 +80,8 @@ impl ClaimedEdit<'_> {
         let many = self.settled(node, SettledPart::More).saturating_add(1);
         self.demand(head.leaf, "# is no leaf", &[Node(node)])?;
         let text = "# has # pairs, and a leaf has 4 at most";
-        let parts = [Node(node), Number(many)];
-        self.demand(head.class > 0 || many <= 4, text, &parts)
+        let details = [Node(node), Number(many)];
+        self.demand(head.class > 0 || many <= 4, text, &details)
     }
 
     /// A node is such a leaf, and is not above all keys.
@@ -97,16 +97,20 @@ impl ClaimedEdit<'_> {
         let held = self.pairs_of(leaf)?;
         let found = value_of(&held, self.key);
         let text = "it has nothing to do at #, which holds #";
-        let parts = [Node(leaf), Pairs(&held)];
-        self.demand(self.rule.applies(found), text, &parts)?;
+        let details = [Node(leaf), Pairs(&held)];
+        self.demand(self.rule.applies(found), text, &details)?;
         let (end, bound) = match self.goal {
             Goal::Key(_) => return Ok(()),
             Goal::End(Side::Left) => ("first", 0),
             Goal::End(Side::Right) => ("last", u64::MAX),
         };
         let text = "# is not the # leaf of the tree";
-        let parts = [Node(leaf), Text(end)];
-        self.demand(self.is_late() || self.is_on_path(bound, leaf), text, &parts)
+        let details = [Node(leaf), Text(end)];
+        self.demand(
+            self.is_late() || self.is_on_path(bound, leaf),
+            text,
+            &details,
+        )
     }
 
     pub(crate) fn is_in_trie(&self) -> bool {

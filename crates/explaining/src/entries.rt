@@ -1,8 +1,8 @@
 //! Entries of the log.
 use crate::breach::Objection;
 use crate::cell_entries::check_cell_entry;
+use crate::details::Detail::{Call, Client, Number, Scx};
 use crate::lines_before::LinesBefore;
-use crate::parts::Part::{Call, Client, Number, Scx};
 use arena::Mode;
 use record::Entry;
 
@@ -55,8 +55,8 @@ fn check_owner(before: &LinesBefore<'_>, entry: &Entry) -> Result<(), Objection>
     let text = "# is making no call, so it has no entry";
     before.demand(has_begun, CLIENT, text, &[Client(owner)])?;
     let text = "# in place of #, the call that # is making";
-    let parts = [Number(entry.call), Number(client.answered), Client(owner)];
-    before.demand(entry.call == client.answered, CALL, text, &parts)?;
+    let details = [Number(entry.call), Number(client.answered), Client(owner)];
+    before.demand(entry.call == client.answered, CALL, text, &details)?;
     check_first(before, entry)
 }
 

@@ -1,9 +1,9 @@
 //! The condition that a line of a record breaks.
 use crate::breach::{Breach, Objection};
+use crate::details::Detail::{Number, Text};
 use crate::entries::check_entry;
 use crate::idle::check_idle;
 use crate::lines_before::LinesBefore;
-use crate::parts::Part::{Number, Text};
 use crate::replies::check_reply;
 use crate::steps::check_step;
 use crate::words::entry_words;

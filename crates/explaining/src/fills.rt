@@ -1,7 +1,7 @@
 //! Fills.
 use crate::breach::Objection;
+use crate::details::Detail::{Client, Named, Node, Scx, Share, Text};
 use crate::lines_before::LinesBefore;
-use crate::parts::Part::{Client, Named, Node, Scx, Share, Text};
 use crate::steps::{AFTER, WORD};
 use crate::words::other_owner;
 use arena::{NodeNo, NodeWord, PassNo, Row, ScxNo, ScxWord, Word};
@@ -36,8 +36,8 @@ fn check_own_node(before: &LinesBefore<'_>, pass: PassNo, node: NodeNo) -> Resul
     }
     let first = layout.first_node(pass);
     let text = "# is not of #'s share, which is #";
-    let parts = [Node(node), Client(pass), Share("n", first, layout.nodes)];
-    before.demand(is_own_node(layout, pass, node), WORD, text, &parts)?;
+    let details = [Node(node), Client(pass), Share("n", first, layout.nodes)];
+    before.demand(is_own_node(layout, pass, node), WORD, text, &details)?;
     let next = u64::from(first.saturating_add(before.judge.nodes_taken(pass)));
     let text = "# in place of #, the next node of the share";
     before.demand(node <= next, WORD, text, &[Node(node), Node(next)])?;
@@ -46,12 +46,12 @@ fn check_own_node(before: &LinesBefore<'_>, pass: PassNo, node: NodeNo) -> Resul
 
 fn check_unnamed_node(before: &LinesBefore<'_>, node: u64) -> Result<(), Objection> {
     let text = "# is named already, and what is shared is not filled again";
-    let parts = [Node(node)];
+    let details = [Node(node)];
     before.demand(
         !before.judge.is_named_node(NodeNo(node)),
         WORD,
         text,
-        &parts,
+        &details,
     )
 }
 
@@ -62,8 +62,8 @@ fn check_own_scx(before: &LinesBefore<'_>, pass: PassNo, scx: ScxNo) -> Result<(
     }
     let first = layout.first_scx(pass);
     let text = "# is not of #'s share, which is #";
-    let parts = [Scx(scx), Client(pass), Share("s", first, layout.scx)];
-    before.demand(is_own_scx(layout, pass, scx), WORD, text, &parts)?;
+    let details = [Scx(scx), Client(pass), Share("s", first, layout.scx)];
+    before.demand(is_own_scx(layout, pass, scx), WORD, text, &details)?;
     let next = u64::from(first.saturating_add(before.judge.scx_taken(pass)));
     let text = "# in place of #, the next SCX-record of the share";
     before.demand(scx <= next, WORD, text, &[Scx(scx), Scx(next)])?;
@@ -105,8 +105,8 @@ fn check_known_scx(before: &LinesBefore<'_>, row: &Row) -> Result<(), Objection>
     match before.judge.layout().owner(scx) {
         Some(owner) if owner != row.pass => {
             let text = "# is of #'s share, and no info word has named it";
-            let parts = [Scx(scx.0), Client(owner)];
-            before.demand(before.judge.is_named(scx), AFTER, text, &parts)
+            let details = [Scx(scx.0), Client(owner)];
+            before.demand(before.judge.is_named(scx), AFTER, text, &details)
         }
         _ => Ok(()),
     }

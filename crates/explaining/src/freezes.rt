@@ -1,8 +1,8 @@
 //! Freezing exchanges.
 use crate::begins::check_beginning;
 use crate::breach::Objection;
+use crate::details::Detail::{Named, Node, Number, Scx};
 use crate::lines_before::LinesBefore;
-use crate::parts::Part::{Named, Node, Number, Scx};
 use crate::steps::{AFTER, WORD};
 use arena::{NodeNo, NodeWord, Row, ScxWord, Word};
 
@@ -39,14 +39,14 @@ fn check_won(before: &LinesBefore<'_>, row: &Row, node: NodeNo) -> Result<(), Ob
 fn check_wins(before: &LinesBefore<'_>, row: &Row, scx: u64, place: u8) -> Result<(), Objection> {
     let seen = before.scx_word(scx, ScxWord::Seen(place));
     let text = "# in place of #, since the exchange is lost: i# of # is #";
-    let parts = [
+    let details = [
         Number(scx),
         Number(row.before),
         Number(u64::from(place)),
         Scx(scx),
         Number(seen),
     ];
-    before.demand(row.before == seen, AFTER, text, &parts)
+    before.demand(row.before == seen, AFTER, text, &details)
 }
 
 fn check_unfinished(before: &LinesBefore<'_>, scx: u64) -> Result<(), Objection> {
@@ -61,13 +61,13 @@ fn check_earlier(before: &LinesBefore<'_>, scx: u64, place: u8) -> Result<(), Ob
         return Ok(());
     };
     let text = "#, which # covers before #, was never frozen for #";
-    let parts = [
+    let details = [
         Node(before.member(scx, earlier)),
         Scx(scx),
         Node(before.member(scx, place)),
         Scx(scx),
     ];
-    Err(before.object(WORD, text, &parts))
+    Err(before.object(WORD, text, &details))
 }
 
 /// One that changes nothing is lost for some SCX-record, which covers the node.
@@ -81,12 +81,12 @@ fn check_lost(before: &LinesBefore<'_>, row: &Row, node: NodeNo) -> Result<(), O
     };
     check_earlier(before, scx, place)?;
     let text = "# in place of #, since the exchange wins: i# of # is # too";
-    let parts = [
+    let details = [
         Number(row.after),
         Number(scx),
         Number(u64::from(place)),
         Scx(scx),
         Number(row.before),
     ];
-    Err(before.object(AFTER, text, &parts))
+    Err(before.object(AFTER, text, &details))
 }

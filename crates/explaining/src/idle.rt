@@ -1,7 +1,7 @@
 //! Turns without a step.
 use crate::breach::Objection;
+use crate::details::Detail::Call;
 use crate::lines_before::LinesBefore;
-use crate::parts::Part::Call;
 use crate::steps::{check_number, check_pass};
 use arena::PassNo;
 
@@ -25,8 +25,8 @@ pub(crate) fn check_idle(
 /// asked last, so it is what is broken.
 fn check_not_begun(before: &LinesBefore<'_>, pass: PassNo) -> Result<(), Objection> {
     let text = "#, has begun, and makes a step in each of its turns";
-    let parts = [Call(pass)];
-    before.demand(before.client(pass).begun.is_none(), KIND, text, &parts)?;
+    let details = [Call(pass)];
+    before.demand(before.client(pass).begun.is_none(), KIND, text, &details)?;
     let text = "#, is not answered, so a turn without a step is all of it, and in the next row \
         is its reply, with an answer that needs no step";
     Err(before.object(KIND, text, &[Call(pass)]))

@@ -1,8 +1,8 @@
 //! Edits that put another leaf, or a fork over two, in the place of a leaf.
 use crate::breach::Objection;
 use crate::claimed_edit::ClaimedEdit;
+use crate::details::Detail::{Node, Number, Pairs};
 use crate::map_before::MapPairs;
-use crate::parts::Part::{Node, Number, Pairs};
 use arena::{NodeNo, Side};
 use std::alloc::AllocError;
 
@@ -23,8 +23,8 @@ pub(crate) fn check_leaf_edit(edit: &ClaimedEdit<'_>) -> Result<(), Objection> {
 fn check_level(edit: &ClaimedEdit<'_>, leaf: u64, new: u64) -> Result<(), Objection> {
     let (level, wanted) = (edit.head(new).level, edit.head(leaf).level);
     let text = "# has level # in place of #, that of #";
-    let parts = [Node(new), Number(level), Number(wanted), Node(leaf)];
-    edit.demand(level == wanted, text, &parts)
+    let details = [Node(new), Number(level), Number(wanted), Node(leaf)];
+    edit.demand(level == wanted, text, &details)
 }
 
 /// Another leaf comes in the place of a leaf that has pairs.
@@ -40,8 +40,8 @@ pub(crate) fn check_swap(edit: &ClaimedEdit<'_>, leaf: u64, new: u64) -> Result<
 fn check_pairs(edit: &ClaimedEdit<'_>, leaf: u64, put: &MapPairs) -> Result<(), Objection> {
     let (shown, wanted) = (edit.pairs_of(leaf)?, edit.pairs_left(leaf)?);
     let text = "it puts # in place of #, which the call makes of #";
-    let parts = [Pairs(put), Pairs(&wanted), Pairs(&shown)];
-    edit.demand(put.as_slice() == wanted.as_slice(), text, &parts)
+    let details = [Pairs(put), Pairs(&wanted), Pairs(&shown)];
+    edit.demand(put.as_slice() == wanted.as_slice(), text, &details)
 }
 
 /// A fork comes in the place of a leaf, over two fresh ones: between them they have what the call
@@ -78,15 +78,19 @@ fn check_fresh(edit: &ClaimedEdit<'_>, fork: u64, node: u64) -> Result<(), Objec
     let (level, above) = (edit.head(node).level, edit.head(fork).level);
     let wanted = above.saturating_add(1);
     let text = "# has level # in place of #, just below #";
-    let parts = [Node(node), Number(level), Number(wanted), Node(fork)];
-    edit.demand(level == wanted || edit.is_in_trie(), text, &parts)
+    let details = [Node(node), Number(level), Number(wanted), Node(fork)];
+    edit.demand(level == wanted || edit.is_in_trie(), text, &details)
 }
 
 /// A node below the fork is named by no word yet.
 pub(crate) fn check_unnamed(edit: &ClaimedEdit<'_>, fork: u64, node: u64) -> Result<(), Objection> {
     let text = "#, below #, is named already";
-    let parts = [Node(node), Node(fork)];
-    edit.demand(!edit.before.judge.is_named_node(NodeNo(node)), text, &parts)
+    let details = [Node(node), Node(fork)];
+    edit.demand(
+        !edit.before.judge.is_named_node(NodeNo(node)),
+        text,
+        &details,
+    )
 }
 
 /// Two nodes are of one class, and have one key if that is asked.
@@ -98,17 +102,17 @@ fn check_alike(
 ) -> Result<(), Objection> {
     let (class, wanted) = (edit.head(node).class, edit.head(other).class);
     let text = "# has class # in place of #, that of #";
-    let parts = [
+    let details = [
         Node(node),
         Number(u64::from(class)),
         Number(u64::from(wanted)),
         Node(other),
     ];
-    edit.demand(class == wanted, text, &parts)?;
+    edit.demand(class == wanted, text, &details)?;
     let (key, wanted) = (edit.key_of(node), edit.key_of(other));
     let text = "# has key # in place of #, that of #";
-    let parts = [Node(node), Number(key), Number(wanted), Node(other)];
-    edit.demand(key == wanted || !has_its_key, text, &parts)
+    let details = [Node(node), Number(key), Number(wanted), Node(other)];
+    edit.demand(key == wanted || !has_its_key, text, &details)
 }
 
 /// The keys of a leaf are on its side of the fork.
@@ -122,8 +126,8 @@ fn check_side(
     let parting = edit.key_of(fork);
     for (key, _) in pairs.iter() {
         let text = "# has key # on the wrong side of #, of key #";
-        let parts = [Node(leaf), Number(*key), Node(fork), Number(parting)];
-        edit.demand(edit.toward(fork, *key) == side, text, &parts)?;
+        let details = [Node(leaf), Number(*key), Node(fork), Number(parting)];
+        edit.demand(edit.toward(fork, *key) == side, text, &details)?;
     }
     Ok(())
 }

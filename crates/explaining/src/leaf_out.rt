@@ -1,7 +1,7 @@
 //! Edits that take a leaf out.
 use crate::breach::Objection;
 use crate::claimed_edit::ClaimedEdit;
-use crate::parts::Part::{Node, Pairs, Text};
+use crate::details::Detail::{Node, Pairs, Text};
 use arena::Side;
 
 /// It covers two forks, one below the other, and the two children of the second: one is a leaf of
@@ -46,11 +46,11 @@ pub(crate) fn check_child(
 ) -> Result<(), Objection> {
     let child = edit.child(fork, side);
     let text = "it covers # in place of #, a child of #";
-    let parts = [Node(node), Node(child), Node(fork)];
+    let details = [Node(node), Node(child), Node(fork)];
     edit.demand(
         child == node || !edit.before.is_as_seen(edit.scx, 1),
         text,
-        &parts,
+        &details,
     )
 }
 
@@ -85,6 +85,6 @@ fn check_part(
     is_same: bool,
 ) -> Result<(), Objection> {
     let text = "its new, #, is no copy of #, which has another #";
-    let parts = [Node(edit.new_node()), Node(edit.member(place)), Text(part)];
-    edit.demand(is_same, text, &parts)
+    let details = [Node(edit.new_node()), Node(edit.member(place)), Text(part)];
+    edit.demand(is_same, text, &details)
 }

@@ -1,7 +1,7 @@
 //! Levels of a tree.
 use crate::breach::Objection;
+use crate::details::Detail::{Node, Number};
 use crate::lines_before::LinesBefore;
-use crate::parts::Part::{Node, Number};
 use crate::steps::{AFTER, WORD};
 use arena::{Head, NodeNo, NodeWord, Row, SettledPart, Side, Word};
 
@@ -46,13 +46,18 @@ fn check_child(before: &LinesBefore<'_>, node: u64, child: u64) -> Result<(), Ob
 fn check_rises(before: &LinesBefore<'_>, fork: u64, child: u64) -> Result<(), Objection> {
     let (above, below) = (head(before, fork), head(before, child));
     let text = "# of level # is put below # of level #: levels rise";
-    let parts = [
+    let details = [
         Node(child),
         Number(below.level),
         Node(fork),
         Number(above.level),
     ];
-    before.demand(above.leaf || above.level < below.level, AFTER, text, &parts)
+    before.demand(
+        above.leaf || above.level < below.level,
+        AFTER,
+        text,
+        &details,
+    )
 }
 
 fn head(before: &LinesBefore<'_>, node: u64) -> Head {

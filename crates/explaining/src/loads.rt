@@ -1,7 +1,7 @@
 //! Loads.
 use crate::breach::Objection;
+use crate::details::Detail::{Named, Text};
 use crate::lines_before::LinesBefore;
-use crate::parts::Part::{Named, Text};
 use crate::steps::{AFTER, WORD};
 use crate::words::name_of;
 use arena::{Kind, NodeWord, Row, ScxWord, Word};
@@ -9,12 +9,12 @@ use arena::{Kind, NodeWord, Row, ScxWord, Word};
 /// A load is of a word of its kind, and changes nothing.
 pub(crate) fn check_load(before: &LinesBefore<'_>, row: &Row) -> Result<(), Objection> {
     let text = "# in place of #, which # loads";
-    let parts = [
+    let details = [
         Named(row.word),
         Text(loaded_by(row.kind)),
         Text(name_of(row.kind)),
     ];
-    before.demand(is_loaded_by(row.kind, row.word), WORD, text, &parts)?;
+    before.demand(is_loaded_by(row.kind, row.word), WORD, text, &details)?;
     let why = "since a load changes nothing";
     before.demand_same(AFTER, row.after, row.before, why)
 }

@@ -1,11 +1,11 @@
 //! Whether an SCX-record that begins makes the edit of its client's call.
 use crate::breach::Objection;
 use crate::claimed_edit::ClaimedEdit;
+use crate::details::Detail::{Call, Node, Number, Scx, Text};
 use crate::leaf_edit::check_leaf_edit;
 use crate::leaf_out::check_leaf_out;
 use crate::lines_before::LinesBefore;
 use crate::map_before::end_pair;
-use crate::parts::Part::{Call, Node, Number, Scx, Text};
 use crate::steps::AFTER;
 use crate::trie_edit::{check_above, check_end_leaf_edit, check_end_leaf_out, end_leaf_out};
 use crate::trie_keys::check_keys;

@@ -1,9 +1,9 @@
 //! Answers of calls of the map.
 use crate::blame::{check_blame, check_since};
 use crate::breach::Objection;
+use crate::details::Detail::{Number, Text, Told};
 use crate::lines_before::LinesBefore;
 use crate::map_before::{needed_by, pairs_at, reply_of};
-use crate::parts::Part::{Number, Text, Told};
 use crate::replies::{ANSWER, MOMENT};
 use arena::{Full, Kind, Mode, NodeNo, NodeWord, PassNo, Resource, ScxNo, SettledPart, Word};
 use ordered_map::{Goal, Reply, Request};
@@ -88,8 +88,8 @@ fn check_replied<'a>(
     wanted: &'a str,
 ) -> Result<(), Objection> {
     let text = "# in place of #, which the map replies just before turn #, when the update wins";
-    let parts = [Text(answer), Text(wanted), Number(turn)];
-    before.demand(answer == wanted, ANSWER, text, &parts)
+    let details = [Text(answer), Text(wanted), Number(turn)];
+    before.demand(answer == wanted, ANSWER, text, &details)
 }
 
 /// A call that reads answers what the map replied after a turn of the call, and names the latest
@@ -117,14 +117,14 @@ fn object_to_reading<'a>(
 ) -> Objection {
     let text = "# in place of #, which the map replies after turn #, the call's last, and from \
         turn # on it never replies #";
-    let parts = [
+    let details = [
         Text(answer),
         Text(last),
         Number(reply.end),
         Number(reply.begin),
         Text(answer),
     ];
-    before.object(ANSWER, text, &parts)
+    before.object(ANSWER, text, &details)
 }
 
 /// The latest turn of a call after which the map replies this, if there is one.
@@ -165,8 +165,8 @@ pub(crate) fn check_moment_is(
 /// An answer that says nothing of the map has no moment.
 pub(crate) fn check_no_moment(before: &LinesBefore<'_>, reply: &Finished) -> Result<(), Objection> {
     let text = "# where nothing is wanted: # has no moment";
-    let parts = [Number(reply.moment.unwrap_or(0)), Told(&reply.answer)];
-    before.demand(reply.moment.is_none(), MOMENT, text, &parts)
+    let details = [Number(reply.moment.unwrap_or(0)), Told(&reply.answer)];
+    before.demand(reply.moment.is_none(), MOMENT, text, &details)
 }
 
 /// The call has begun as many tries as it may.
@@ -177,8 +177,8 @@ fn check_tries(before: &LinesBefore<'_>, pass: PassNo) -> Result<(), Objection> 
         .filter(|row| row.pass == pass && begins_try(row))
         .count();
     let text = "the call has begun # tries, and gives up after #";
-    let parts = [Number(tries as u64), Number(u64::from(limit))];
-    before.demand(tries == limit as usize, ANSWER, text, &parts)
+    let details = [Number(tries as u64), Number(u64::from(limit))];
+    before.demand(tries == limit as usize, ANSWER, text, &details)
 }
 
 /// How many steps there were before the newest try of a client.
@@ -221,8 +221,13 @@ fn check_needed(
 ) -> Result<(), Objection> {
     let needed = most_needed(before, request, reply)?;
     let text = "the map gave the call nothing to do after any turn from # to #";
-    let parts = [Number(reply.begin), Number(reply.end)];
-    before.demand(needed > 0 || request.edit().is_none(), ANSWER, text, &parts)
+    let details = [Number(reply.begin), Number(reply.end)];
+    before.demand(
+        needed > 0 || request.edit().is_none(),
+        ANSWER,
+        text,
+        &details,
+    )
 }
 
 /// The share has just so much left, too little for what the edit needed.
@@ -250,8 +255,8 @@ fn object_to_full(before: &LinesBefore<'_>, pass: PassNo, resource: Resource) ->
     };
     let text = "# # were left as the call began, and since then no SCX-record of another client \
         was in progress, to which it could have lost a try";
-    let parts = [Number(u64::from(left)), Text(what)];
-    before.object(ANSWER, text, &parts)
+    let details = [Number(u64::from(left)), Text(what)];
+    before.object(ANSWER, text, &details)
 }
 
 /// So many nodes are too few for the edit.
@@ -263,8 +268,8 @@ fn check_too_few(
 ) -> Result<(), Objection> {
     let needed = most_needed(before, request, reply)?;
     let text = "# nodes are enough for the call, which needed # at most";
-    let parts = [Number(u64::from(told)), Number(u64::from(needed))];
-    before.demand(told < needed, ANSWER, text, &parts)
+    let details = [Number(u64::from(told)), Number(u64::from(needed))];
+    before.demand(told < needed, ANSWER, text, &details)
 }
 
 /// What is left of the share: so many nodes, or no SCX-record, and some node.
@@ -283,6 +288,6 @@ pub(crate) fn check_left(
     let fits = full.what == Resource::Nodes || (scx == 0 && nodes > 0);
     before.demand_same(ANSWER, u64::from(full.left), u64::from(left), what)?;
     let text = "# SCX-records and # nodes are left: none and some are wanted";
-    let parts = [Number(u64::from(scx)), Number(u64::from(nodes))];
-    before.demand(fits, ANSWER, text, &parts)
+    let details = [Number(u64::from(scx)), Number(u64::from(nodes))];
+    before.demand(fits, ANSWER, text, &details)
 }

@@ -1,9 +1,9 @@
 //! Replies.
 use crate::breach::Objection;
 use crate::cell_answers::check_cell_answer;
+use crate::details::Detail::{Call, Client, Number, Told};
 use crate::lines_before::LinesBefore;
 use crate::map_answers::check_map_answer;
-use crate::parts::Part::{Call, Client, Number, Told};
 use arena::PassNo;
 use ordered_map::{Reply, Request};
 use record::{Answer, Finished};
@@ -82,8 +82,8 @@ fn check_form(
         let fits = may_answer(command, &reply.answer);
         (fits, "# is no answer to #, after a step")
     };
-    let parts = [Told(&reply.answer), Call(reply.client)];
-    before.demand(fits, ANSWER, text, &parts)
+    let details = [Told(&reply.answer), Call(reply.client)];
+    before.demand(fits, ANSWER, text, &details)
 }
 
 fn may_answer_at_once(command: &Command, answer: &Answer) -> bool {
@@ -164,8 +164,8 @@ fn check_moment(before: &LinesBefore<'_>, reply: &Finished) -> Result<(), Object
         return Ok(());
     };
     let text = "# is not within the call, which is from turn # to #";
-    let parts = [Number(moment), Number(begin), Number(end)];
-    before.demand(begin <= moment && moment <= end, MOMENT, text, &parts)
+    let details = [Number(moment), Number(begin), Number(end)];
+    before.demand(begin <= moment && moment <= end, MOMENT, text, &details)
 }
 
 /// The call has not taken more of its share than it may.
@@ -185,8 +185,8 @@ fn check_share(
     before.demand(scx <= most, ANSWER, text, &[count, Number(u64::from(most))])?;
     let most = each.saturating_mul(scx);
     let text = "the call has taken # nodes of its share, and may take # with # SCX-records";
-    let parts = [Number(u64::from(nodes)), Number(u64::from(most)), count];
-    before.demand(nodes <= most, ANSWER, text, &parts)
+    let details = [Number(u64::from(nodes)), Number(u64::from(most)), count];
+    before.demand(nodes <= most, ANSWER, text, &details)
 }
 
 /// How many nodes a call may take with each SCX-record, and how many of these.

@@ -1,12 +1,12 @@
 //! What is asked of each step.
 use crate::breach::Objection;
+use crate::details::Detail::{Call, Client, Named, Node, Number, Scx, Text};
 use crate::fills::check_fill;
 use crate::freezes::check_freeze;
 use crate::levels::check_levels;
 use crate::lines_before::LinesBefore;
 use crate::loads::check_load;
 use crate::made_edit::check_edit;
-use crate::parts::Part::{Call, Client, Named, Node, Number, Scx, Text};
 use crate::stores::{check_abort, check_commit, check_frozen, check_mark};
 use crate::updates::check_update;
 use crate::words::name_of;
@@ -48,12 +48,12 @@ pub(crate) fn check_step(
 pub(crate) fn check_pass(before: &LinesBefore<'_>, pass: PassNo) -> Result<(), Objection> {
     let last = before.clients.len().saturating_sub(1);
     let text = "# is above #, the last client";
-    let parts = [Number(u64::from(pass.0)), Number(last as u64)];
+    let details = [Number(u64::from(pass.0)), Number(last as u64)];
     before.demand(
         (pass.0 as usize) < before.clients.len(),
         CLIENT,
         text,
-        &parts,
+        &details,
     )
 }
 
@@ -70,12 +70,12 @@ fn check_call(before: &LinesBefore<'_>, row: &Row) -> Result<(), Objection> {
         return Err(before.object(CLIENT, text, &[Client(row.pass)]));
     };
     let text = "# by #, which makes #";
-    let parts = [
+    let details = [
         Text(name_of(row.kind)),
         Call(row.pass),
         Text(kinds_of(&command)),
     ];
-    before.demand(may_make(&command, row.kind), KIND, text, &parts)?;
+    before.demand(may_make(&command, row.kind), KIND, text, &details)?;
     check_call_word(before, row)
 }
 
@@ -126,12 +126,12 @@ fn check_word(before: &LinesBefore<'_>, row: &Row) -> Result<(), Objection> {
     let nodes = layout.all_nodes().saturating_sub(1);
     let scx = layout.all_scx().saturating_sub(1);
     let text = "# does not exist: there are the nodes n0 to # and the SCX-records s0 to #";
-    let parts = [Named(row.word), Node(u64::from(nodes)), Scx(u64::from(scx))];
-    before.demand(layout.has(row.word), WORD, text, &parts)?;
+    let details = [Named(row.word), Node(u64::from(nodes)), Scx(u64::from(scx))];
+    before.demand(layout.has(row.word), WORD, text, &details)?;
     let held = before.judge.get(row.word);
     let text = "# in place of #, which # holds";
-    let parts = [Number(row.before), Number(held), Named(row.word)];
-    before.demand(row.before == held, BEFORE, text, &parts)
+    let details = [Number(row.before), Number(held), Named(row.word)];
+    before.demand(row.before == held, BEFORE, text, &details)
 }
 
 /// What is asked of its kind. A step that is lawful does what its kind allows.
@@ -152,6 +152,6 @@ fn check_kind(before: &LinesBefore<'_>, row: &Row) -> Result<(), Objection> {
 /// A call makes no more steps than it may. This is asked last, so it is what is broken.
 fn check_bound(before: &LinesBefore<'_>, row: &Row) -> Result<(), Objection> {
     let text = "#, has made # steps, and may make no more";
-    let parts = [Call(row.pass), Number(before.client(row.pass).steps)];
-    Err(before.object(NUMBER, text, &parts))
+    let details = [Call(row.pass), Number(before.client(row.pass).steps)];
+    Err(before.object(NUMBER, text, &details))
 }

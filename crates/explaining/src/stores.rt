@@ -1,7 +1,7 @@
 //! Stores into words of an SCX-record, or of a node that it finalizes.
 use crate::breach::Objection;
+use crate::details::Detail::{Client, Named, Node, Number, Scx, Text};
 use crate::lines_before::LinesBefore;
-use crate::parts::Part::{Client, Named, Node, Number, Scx, Text};
 use crate::steps::{AFTER, CLIENT, WORD};
 use arena::{MemberIndex, NodeWord, Row, ScxWord, Word};
 
@@ -115,12 +115,12 @@ fn check_overtaken(before: &LinesBefore<'_>, scx: u64) -> Result<(), Objection> 
     };
     let text = "#, the first node of # that was never frozen for it, still has the info that i# \
         says";
-    let parts = [
+    let details = [
         Node(before.member(scx, place)),
         Scx(scx),
         Number(u64::from(place)),
     ];
-    before.demand(!before.is_as_seen(scx, place), WORD, text, &parts)
+    before.demand(!before.is_as_seen(scx, place), WORD, text, &details)
 }
 
 /// The client owns the SCX-record, or its first node has been frozen for it.
@@ -128,6 +128,6 @@ fn check_aborter(before: &LinesBefore<'_>, row: &Row, scx: u64) -> Result<(), Ob
     let is_own = before.owns_scx(row.pass, scx);
     let has_begun = before.first_unfrozen(scx, 1).is_none();
     let text = "# does not own #, whose first node was never frozen for it";
-    let parts = [Client(row.pass), Scx(scx)];
-    before.demand(is_own || has_begun, CLIENT, text, &parts)
+    let details = [Client(row.pass), Scx(scx)];
+    before.demand(is_own || has_begun, CLIENT, text, &details)
 }

@@ -1,9 +1,9 @@
 //! Edits that are made in a trie alone. They cover node 2 as the last.
 use crate::breach::Objection;
 use crate::claimed_edit::ClaimedEdit;
+use crate::details::Detail::{Node, Pairs};
 use crate::leaf_edit::{check_swap, check_unnamed};
 use crate::leaf_out::{check_child, check_taken};
-use crate::parts::Part::{Node, Pairs};
 use crate::trie_keys::shares;
 use arena::{Kind, NodeWord, ScxNo, ScxWord, SettledPart, Side, Word};
 
@@ -87,8 +87,8 @@ fn check_lone_leaf(edit: &ClaimedEdit<'_>, fork: u64, leaf: u64) -> Result<(), O
     edit.check_asks(edit.member(1))?;
     let (put, wanted) = (edit.pairs_of(leaf)?, edit.pairs_left(edit.member(1))?);
     let text = "it puts # above a fork in place of #";
-    let parts = [Pairs(&put), Pairs(&wanted)];
-    edit.demand(put.as_slice() == wanted.as_slice(), text, &parts)
+    let details = [Pairs(&put), Pairs(&wanted)];
+    edit.demand(put.as_slice() == wanted.as_slice(), text, &details)
 }
 
 /// A node is a fork that is not above all keys.

@@ -1,7 +1,7 @@
 //! Which keys may stand where in a trie.
 use crate::breach::Objection;
 use crate::claimed_edit::ClaimedEdit;
-use crate::parts::Part::{Node, Number, Wide};
+use crate::details::Detail::{Node, Number, Wide};
 use arena::Side;
 
 /// How many keys there are.
@@ -62,8 +62,8 @@ pub(crate) fn check_keys(edit: &ClaimedEdit<'_>) -> Result<(), Objection> {
     let (key, fork, new) = (edit.key, edit.member(0), edit.new_node());
     let span = span_of(edit, fork);
     let text = "key # may not stand below #, which parts those from # to below #";
-    let parts = [Number(key), Node(fork), Wide(span.low), Wide(span.high)];
-    edit.demand(shares(edit, fork, key), text, &parts)?;
+    let details = [Number(key), Node(fork), Wide(span.low), Wide(span.high)];
+    edit.demand(shares(edit, fork, key), text, &details)?;
     check_below(edit, fork, edit.toward(fork, key), new)?;
     if !edit.head(new).leaf {
         check_parted(edit, new)?;
@@ -84,8 +84,8 @@ fn check_below(edit: &ClaimedEdit<'_>, fork: u64, side: Side, node: u64) -> Resu
 fn check_deeper(edit: &ClaimedEdit<'_>, fork: u64, node: u64) -> Result<(), Objection> {
     let (above, level) = (edit.head(fork).level, edit.head(node).level);
     let text = "# of level # comes below # of level #";
-    let parts = [Node(node), Number(level), Node(fork), Number(above)];
-    edit.demand(above < level, text, &parts)
+    let details = [Node(node), Number(level), Node(fork), Number(above)];
+    edit.demand(above < level, text, &details)
 }
 
 /// A node keeps to the keys of a fork's side: a fork with all that may stand below it, a leaf with
@@ -98,7 +98,7 @@ fn check_keeps(edit: &ClaimedEdit<'_>, fork: u64, side: Side, node: u64) -> Resu
     let below = span_of(edit, node);
     let text = "# parts the keys from # to below #, and on its side of # are those from # to \
         below #";
-    let parts = [
+    let details = [
         Node(node),
         Wide(below.low),
         Wide(below.high),
@@ -107,7 +107,7 @@ fn check_keeps(edit: &ClaimedEdit<'_>, fork: u64, side: Side, node: u64) -> Resu
         Wide(to),
     ];
     let keeps = head.class > 0 || (from <= below.low && below.high <= to);
-    edit.demand(keeps, text, &parts)
+    edit.demand(keeps, text, &details)
 }
 
 /// A leaf has its level, and no key but those from one to below another.
@@ -121,11 +121,11 @@ fn check_leaf_keeps(
     check_leaf_level(edit, leaf)?;
     for (key, _) in edit.pairs_of(leaf)?.iter() {
         let text = "# has key #, and on its side of # are those from # to below #";
-        let parts = [Node(leaf), Number(*key), Node(fork), Wide(from), Wide(to)];
+        let details = [Node(leaf), Number(*key), Node(fork), Wide(from), Wide(to)];
         edit.demand(
             from <= u128::from(*key) && u128::from(*key) < to,
             text,
-            &parts,
+            &details,
         )?;
     }
     Ok(())
@@ -136,8 +136,12 @@ fn check_leaf_level(edit: &ClaimedEdit<'_>, leaf: u64) -> Result<(), Objection> 
     let head = edit.head(leaf);
     let (level, class) = (head.level, u64::from(head.class));
     let text = "# has level #, and leaves above all keys have 1 or 2";
-    let parts = [Node(leaf), Number(level)];
-    edit.demand(class == 0 || level.saturating_add(class) <= 3, text, &parts)?;
+    let details = [Node(leaf), Number(level)];
+    edit.demand(
+        class == 0 || level.saturating_add(class) <= 3,
+        text,
+        &details,
+    )?;
     let text = "# has level # in place of 66, that of leaves";
     edit.demand(class > 0 || level == 66, text, &[Node(leaf), Number(level)])
 }
@@ -148,12 +152,12 @@ fn check_parted(edit: &ClaimedEdit<'_>, fork: u64) -> Result<(), Objection> {
     let (level, class) = (head.level, u64::from(head.class));
     if class > 0 {
         let text = "# has level #, and a fork of class # has another";
-        let parts = [Node(fork), Number(level), Number(class)];
-        return edit.demand(level.saturating_add(class) == 2, text, &parts);
+        let details = [Node(fork), Number(level), Number(class)];
+        return edit.demand(level.saturating_add(class) == 2, text, &details);
     }
     let text = "# has level #, and forks of class 0 have 2 to 65";
-    let parts = [Node(fork), Number(level)];
-    edit.demand(2 <= level && level <= 65, text, &parts)?;
+    let details = [Node(fork), Number(level)];
+    edit.demand(2 <= level && level <= 65, text, &details)?;
     check_lowest_bit(edit, fork, level)
 }
 
@@ -162,6 +166,6 @@ fn check_lowest_bit(edit: &ClaimedEdit<'_>, fork: u64, level: u64) -> Result<(),
     let (key, room) = (edit.key_of(fork), room_at(level));
     let has_it = u128::from(key).checked_rem(room.saturating_mul(2)) == Some(room);
     let text = "# has level #, so the lowest bit of its key is #, and # has another";
-    let parts = [Node(fork), Number(level), Wide(room), Number(key)];
-    edit.demand(has_it, text, &parts)
+    let details = [Node(fork), Number(level), Wide(room), Number(key)];
+    edit.demand(has_it, text, &details)
 }

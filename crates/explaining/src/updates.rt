@@ -1,8 +1,8 @@
 //! Updates of fields.
 use crate::begins::field_of;
 use crate::breach::Objection;
+use crate::details::Detail::{Named, Node, Number, Scx};
 use crate::lines_before::LinesBefore;
-use crate::parts::Part::{Named, Node, Number, Scx};
 use crate::steps::{AFTER, WORD};
 use crate::stores::{check_all_frozen, finalizes};
 use arena::{NodeNo, NodeWord, Row, ScxWord, Word};
@@ -31,8 +31,8 @@ fn check_its_field(
     scx: u64,
 ) -> Result<(), Objection> {
     let text = "the info of # names #, whose field is not #";
-    let parts = [Node(node.0), Scx(scx), Named(field)];
-    before.demand(field_of(before, scx) == field, WORD, text, &parts)
+    let details = [Node(node.0), Scx(scx), Named(field)];
+    before.demand(field_of(before, scx) == field, WORD, text, &details)
 }
 
 /// All its nodes are frozen, and what it finalizes is marked.
@@ -49,12 +49,12 @@ fn check_marked(before: &LinesBefore<'_>, scx: u64, place: u8) -> Result<(), Obj
     let node = before.member(scx, place);
     let is_marked = before.node_word(node, NodeWord::Marked) == 1;
     let text = "#, which # finalizes, is not marked";
-    let parts = [Node(node), Scx(scx)];
+    let details = [Node(node), Scx(scx)];
     before.demand(
         is_marked || !finalizes(before, scx, place),
         WORD,
         text,
-        &parts,
+        &details,
     )
 }
 
@@ -65,16 +65,16 @@ fn check_exchange(before: &LinesBefore<'_>, row: &Row, scx: u64) -> Result<(), O
         return check_put(before, row, scx);
     }
     let text = "# in place of #, since the exchange is lost: old of # is #";
-    let parts = [Number(row.after), Number(row.before), Scx(scx), Number(old)];
-    before.demand(row.after == row.before, AFTER, text, &parts)
+    let details = [Number(row.after), Number(row.before), Scx(scx), Number(old)];
+    before.demand(row.after == row.before, AFTER, text, &details)
 }
 
 /// What it leaves is `new`.
 fn check_put(before: &LinesBefore<'_>, row: &Row, scx: u64) -> Result<(), Objection> {
     let new = before.scx_word(scx, ScxWord::New);
     let text = "# in place of #, the word new of #";
-    let parts = [Number(row.after), Number(new), Scx(scx)];
-    before.demand(row.after == new, AFTER, text, &parts)
+    let details = [Number(row.after), Number(new), Scx(scx)];
+    before.demand(row.after == new, AFTER, text, &details)
 }
 
 /// One that changes nothing, and is not of the SCX-record that the info names, is lost by another.
@@ -86,6 +86,6 @@ fn check_lost(before: &LinesBefore<'_>, row: &Row) -> Result<(), Objection> {
     check_ready(before, scx)?;
     let new = before.scx_word(scx, ScxWord::New);
     let text = "# in place of #, since the exchange wins: old of # is # too";
-    let parts = [Number(row.after), Number(new), Scx(scx), Number(row.before)];
-    Err(before.object(AFTER, text, &parts))
+    let details = [Number(row.after), Number(new), Scx(scx), Number(row.before)];
+    Err(before.object(AFTER, text, &details))
 }

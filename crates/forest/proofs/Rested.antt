@@ -10,7 +10,7 @@ use Rattle.prims.specs.Moments.{AreFinished}
 use Rattle.slots.specs.Lasting.{Lasting}
 use Rattle.tables.specs.declared.rule.Site.{Site}
 use Rattle.upkeep.specs.declared.keeper.Keeper.{Keeper}
-use Rattle.forest.specs.declared.kept.Kept.{Kept}
+use Rattle.forest.specs.declared.kept.PassKeeper.{PassKeeper}
 use Rattle.tables.specs.declared.view.SeatView.{SeatView}
 use Rattle.tables.specs.declared.view.SeatedPass.{SeatedPass}
 use Rattle.tables.specs.declared.words.Words.{Words}
@@ -58,14 +58,14 @@ left_now {lay} {number} {left} {at} x =
     record { is_pass = x.is_pass; run = x.sound; there = x.seat.there; share = between.share; over = between.over }
 
 -- and what it keeps is of this table
-pub slots_kept : (id : TableId) (site : Site) (lay : Layout) (kept : Kept) → IsLastingTable id site lay → site.turns ≡ Some kept.turns → lay ≡ kept.layout → slots_of_table site ≡ in_turns kept.layout kept.turns
+pub slots_kept : (id : TableId) (site : Site) (lay : Layout) (kept : PassKeeper) → IsLastingTable id site lay → site.turns ≡ Some kept.turns → lay ≡ kept.layout → slots_of_table site ≡ in_turns kept.layout kept.turns
 slots_kept id site lay kept last turns same = ap (slots_by site.layout) turns ∙ ap (λ l. in_turns l kept.turns) (last.layout ∙ same)
 
 -- so it is set to call
-pub set_kept : (allows : Layout → History → ℕ → Type 0) (id : TableId) (site : Site) (lay : Layout) (kept : Kept) (p : SeatedPass) (left : Remaining) → IsLastingTable id site lay → site.turns ≡ Some kept.turns → lay ≡ kept.layout → IsSetToCall allows (in_turns kept.layout kept.turns) p left kept.keeper → IsSetToCall allows (slots_of_table site) p left kept.keeper
+pub set_kept : (allows : Layout → History → ℕ → Type 0) (id : TableId) (site : Site) (lay : Layout) (kept : PassKeeper) (p : SeatedPass) (left : Remaining) → IsLastingTable id site lay → site.turns ≡ Some kept.turns → lay ≡ kept.layout → IsSetToCall allows (in_turns kept.layout kept.turns) p left kept.keeper → IsSetToCall allows (slots_of_table site) p left kept.keeper
 set_kept allows id site lay kept p left last turns same = subst (λ (t : Lasting). IsSetToCall allows t p left kept.keeper) (sym (slots_kept id site lay kept last turns same))
 
-pub set_now : {allows : Layout → History → ℕ → Type 0} {mode : Mode} {lay : Layout} {number first : ℕ} {left : Remaining} {at : Seat ℕ SeatView} {blames : List ℕ} → IsPassWith IsSeated allows mode lay number first left at blames → IsMap lay.mode → (kept : Kept) → KeepsRight (Some kept) (seated_at lay number at) → IsSetToCall allows (in_turns kept.layout kept.turns) (seated_at lay number at) left kept.keeper
+pub set_now : {allows : Layout → History → ℕ → Type 0} {mode : Mode} {lay : Layout} {number first : ℕ} {left : Remaining} {at : Seat ℕ SeatView} {blames : List ℕ} → IsPassWith IsSeated allows mode lay number first left at blames → IsMap lay.mode → (kept : PassKeeper) → KeepsRight (Some kept) (seated_at lay number at) → IsSetToCall allows (in_turns kept.layout kept.turns) (seated_at lay number at) left kept.keeper
 set_now x map kept keeps = record { kept = keeps; has = left_now x; ends = x.dealt map }
 
 -- Rows of no call
@@ -225,13 +225,13 @@ module _ {One : ℕ → Layout → List SeatedPass → Type 0} {allows : Layout 
   pub gone_pass : {Other : ℕ → Layout → List SeatedPass → Type 0} → Other number lay s.me.0.passes → DealsNoMore (memory_of at.me.0.passes) steps.later.memory → IsPassWith Other allows mode lay number first left s blames
   gone_pass sits deals = rested_pass lay number at s steps.later steps.is now_deals left left_there.run between_there many x same.1 sits (ends_still (memory_of at.me.0.passes) steps.later.memory left deals (x.dealt map))
 
-  pub gone_away : (kept : Option Kept) → (so (seated_at lay number at) steps.later → HasGoneAway kept (seated_at lay number at) steps.later) → IsPassWith IsSeatedOrAway allows mode lay number first left s blames × ComesBack kept (seated_at lay number s)
+  pub gone_away : (kept : Option PassKeeper) → (so (seated_at lay number at) steps.later → HasGoneAway kept (seated_at lay number at) steps.later) → IsPassWith IsSeatedOrAway allows mode lay number first left s blames × ComesBack kept (seated_at lay number s)
   gone_away kept to = let y = to now_rests.1 in (
     gone_pass (sits_or_away lay number at s steps.later steps.is now_deals y.rested) y.deals,
     subst (λ (q : SeatedPass). ComesBack kept q) (sym (seated_now lay number at s steps.later steps.is now_deals)) y.comes_back,
   )
 
-  pub come_back : (kept : Option Kept) → (so (seated_at lay number at) steps.later → HasComeBack kept (seated_at lay number at) steps.later) → IsPassWith IsSeated allows mode lay number first left s blames × KeepsRight kept (seated_at lay number s)
+  pub come_back : (kept : Option PassKeeper) → (so (seated_at lay number at) steps.later → HasComeBack kept (seated_at lay number at) steps.later) → IsPassWith IsSeated allows mode lay number first left s blames × KeepsRight kept (seated_at lay number s)
   come_back kept to = let y = to now_rests.1 in (
     gone_pass (sits_there lay number at s steps.later steps.is now_deals y.rested y.there) y.deals,
     subst (λ (q : SeatedPass). KeepsRight kept q) (sym (seated_now lay number at s steps.later steps.is now_deals)) y.keeps,

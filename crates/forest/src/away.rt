@@ -17,7 +17,7 @@ ghost use Rattle.forest.specs.UpkeepKept.{ComesBack, HasComeBack, HasGoneAway};
 
 use crate::blamed::Blamed;
 use crate::forest::Forest;
-use crate::kept::Kept;
+use crate::kept::PassKeeper;
 use crate::lasting::Lasts;
 use crate::pass::Pass;
 use arena::{Layout, PassNo, ScxNo, Shape, Share};
@@ -45,7 +45,7 @@ pub struct Away<S: TableShape> {
     blamed: Blamed,
     birth: Snapshot<Seat<u8, SeatView>>,
     room: Room,
-    kept: Option<Kept>,
+    kept: Option<PassKeeper>,
     shape: PhantomData<S>,
 }
 
@@ -160,7 +160,7 @@ fn leave<S: Shape>(
     layout: &Layout,
     seat: &mut Seat<u8, SeatView>,
     number: PassNo,
-    kept: &Option<Kept>,
+    kept: &Option<PassKeeper>,
 )
     requires { (p : SeatedPass) × IsAtLasting words.now layout.now seat.old p
         × (p.number ≡ number) × AreFinished p.layout p.number.0 0 (past_of p []) × KnowsRest p
@@ -182,8 +182,8 @@ fn come_back<S: Shape>(
     layout: &Layout,
     seat: &mut Seat<u8, SeatView>,
     number: PassNo,
-    kept: Option<Kept>,
-) -> Option<Kept>
+    kept: Option<PassKeeper>,
+) -> Option<PassKeeper>
     requires { (p : SeatedPass) × IsAtLasting words.now layout.now seat.old p
         × (p.number ≡ number) × AreFinished p.layout p.number.0 0 (past_of p []) × KnowsRest p
         × ComesBack kept p × IsRun S.allows p.layout (past_of p [])

@@ -26,13 +26,13 @@ use upkeep::leaf::OwnLeaf;
 
 /// What a pass keeps so that its records come back, and how the slots of its table are taken again.
 #[derive(Drop)]
-pub(crate) struct Kept {
+pub(crate) struct PassKeeper {
     pub(crate) layout: Layout,
     pub(crate) turns: Turns,
     pub(crate) keeper: Keeper,
 }
 
-impl Kept {
+impl PassKeeper {
     /// Whether it is of a table that has this layout, and whose slots are taken again so.
     fn is_of(&self, turns: Option<Turns>, layout: &Layout) -> bool
         ensures { IsTrue result → (turns ≡ Some self.now.turns) × (layout.now ≡ self.now.layout) }
@@ -159,7 +159,7 @@ fn is_lost<K, V>(reply: &Reply<K, V>) -> bool
 /// they do so soon if the call was lost: nobody else has known them.
 #[inline(always)]
 pub(crate) fn note_lost<K, V, B: Keeping>(
-    kept: &mut Option<Kept>,
+    kept: &mut Option<PassKeeper>,
     reply: &Reply<K, V>,
     from: NodeNo,
     to: NodeNo,

@@ -14,7 +14,7 @@ ghost use Rattle.forest.specs.Opened.{HasStepped, IsSameOpen, pass_now};
 
 use crate::blamed::Blamed;
 use crate::forest::Forest;
-use crate::kept::{Kept, note_lost};
+use crate::kept::{PassKeeper, note_lost};
 use crate::pass::Pass;
 use arena::{Kind, Machine, NodeNo, PassNo, ScxNo, Turn};
 use atomic_table::Seat;
@@ -53,7 +53,7 @@ pub struct OpenCall<K: WordKey, V: WordValue, B: Keeping = ByOrder> {
     /// The pass's seat as it was made, for proofs alone.
     birth: Snapshot<Seat<u8, SeatView>>,
     room: Room,
-    kept: Option<Kept>,
+    kept: Option<PassKeeper>,
     /// The next node of the pass's share as it began.
     from: NodeNo,
     /// Which of the pass's calls it is.

@@ -15,7 +15,7 @@ ghost use Rattle.tables.specs.Shares.{HasFewNames};
 
 use crate::blamed::Blamed;
 use crate::filled_once::TableOnce;
-use crate::kept::Kept;
+use crate::kept::PassKeeper;
 use arena::{Layout, NoMemory, PassNo, ScxNo, Share};
 use atomic_table::Seat;
 use std::alloc::Global;
@@ -43,7 +43,7 @@ pub struct Pass<S: TableShape> {
     pub(crate) birth: Snapshot<Seat<u8, SeatView>>,
     pub(crate) room: Room,
     /// Where records come back: what it keeps of its own.
-    pub(crate) kept: Option<Kept>,
+    pub(crate) kept: Option<PassKeeper>,
     pub(crate) shape: PhantomData<S>,
 }
 
@@ -146,7 +146,7 @@ impl<S: TableShape> Pass<S> {
             blamed: Blamed::new(),
             birth,
             room: Room::new(alloc),
-            kept: Some(Kept {
+            kept: Some(PassKeeper {
                 layout: *layout,
                 turns,
                 keeper,

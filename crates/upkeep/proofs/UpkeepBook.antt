@@ -14,8 +14,8 @@ use Rattle.upkeep.specs.UpkeepBook.{IsKnownSo, IsNameIn, KeepsRests, SparesOther
 use Rattle.tables.specs.declared.memory.NoteView.{NoteView}
 use Rattle.tables.specs.declared.memory.PassMemory.{PassMemory}
 use Rattle.tables.specs.declared.memory.RecordNo.{RecordNo}
-use Rattle.upkeep.specs.declared.book.Known.{Known}
-use Rattle.upkeep.specs.declared.book.Known.TheVariants.{Used, Found, Dying, Lost, Free}
+use Rattle.upkeep.specs.declared.book.SlotUse.{SlotUse}
+use Rattle.upkeep.specs.declared.book.SlotUse.TheVariants.{Used, Found, Dying, Lost, Free}
 use Rattle.upkeep.specs.declared.kind.RecordKind.{RecordKind}
 use Rattle.tables.proofs.LastingSlots.{slot_number_is}
 
@@ -102,7 +102,7 @@ module _ (t : Lasting) (planting : PlantingView) (o : ℕ) (m n : PassMemory) (I
   }
 
   -- it stays so while something is done with another slot
-  pub known_kept : (known : Known) → IsKnownSo t planting o m since kind slot name known → IsKnownSo t planting o n later kind slot name known
+  pub known_kept : (known : SlotUse) → IsKnownSo t planting o m since kind slot name known → IsKnownSo t planting o n later kind slot name known
   known_kept Used x = name_kept x
   known_kept Found x = (name_kept x.0, let f = x.1 in record { rows = f.rows; noted = spares.notes _ f.noted; before = ends_trans _ _ _ on f.before })
   known_kept Dying x = (name_kept x.0, let f = x.1 in record { rows = f.rows; noted = spares.notes _ f.noted; before = ends_trans _ _ _ on f.before })

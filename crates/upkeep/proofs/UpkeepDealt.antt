@@ -19,8 +19,8 @@ use Rattle.upkeep.specs.UpkeepSteps.{HasGoneOnResting, RestsOn}
 use Rattle.upkeep.specs.UpkeepDeals.{AreSlotsStill, DealsOn, HasDealt, HasGoneOnDealing, HasShareLeft, HasNameFor, IsFreeAt, IsNameAt, KeepsPolls, MayGet, ahead, memory_given, next_of, with_left}
 use Rattle.tables.specs.declared.memory.PassMemory.{PassMemory}
 use Rattle.tables.specs.declared.memory.RecordNo.{RecordNo}
-use Rattle.upkeep.specs.declared.book.Known.{Known}
-use Rattle.upkeep.specs.declared.book.Known.TheVariants.{Free, Used}
+use Rattle.upkeep.specs.declared.book.SlotUse.{SlotUse}
+use Rattle.upkeep.specs.declared.book.SlotUse.TheVariants.{Free, Used}
 use Rattle.upkeep.specs.declared.book.OwnSlot.{OwnSlot}
 use Rattle.upkeep.specs.declared.book.OwnSlots.{OwnSlots}
 use Rattle.upkeep.specs.declared.kind.RecordKind.{RecordKind}
@@ -83,7 +83,7 @@ module _ (allows : Layout → History → ℕ → Type 0) (t : Lasting) (p : Sea
   may_get = record {
     own = subst (λ (n : RecordNo). IsOwnName t o (record_at n)) (sym (ahead_is own.kind p.memory count)) (subst (λ (l : Layout). IsOwnRecord l o (record_numbered own.kind n)) layout its_own, subst (IsOwnRecord t.table o) (sym (slot_record t own.kind (own.first + i) n in_slot)) slot_own);
     slot_is = ap (slot_number t) (ahead_is own.kind p.memory count) ∙ in_slot;
-    clean = subst (λ (k : Known). IsKnownSo t p.planting o p.memory since own.kind (own.first + i) free.0.name k) free.2 (book.slots i free.0 (omega arith) (within own.slots.items i free.0 free.1) free.1);
+    clean = subst (λ (k : SlotUse). IsKnownSo t p.planting o p.memory since own.kind (own.first + i) free.0.name k) free.2 (book.slots i free.0 (omega arith) (within own.slots.items i free.0 free.1) free.1);
   }
 
 -- After
@@ -267,7 +267,7 @@ module _ (allows : Layout → History → ℕ → Type 0) (t : Lasting) (old new
   -- the slot holds the name
   pub name_there : IsNameIn t p.number.0 p.memory old.kind (old.first + i) name
   name_there = subst (λ n. IsNameIn t p.number.0 p.memory old.kind (old.first + i) n) at.3
-      (subst (λ (k : Known). IsKnownSo t p.planting p.number.0 p.memory since old.kind (old.first + i) at.0.name k) at.2 (book.slots i at.0 (omega arith) (within old.slots.items i at.0 at.1) at.1))
+      (subst (λ (k : SlotUse). IsKnownSo t p.planting p.number.0 p.memory since old.kind (old.first + i) at.0.name k) at.2 (book.slots i at.0 (omega arith) (within old.slots.items i at.0 at.1) at.1))
 
   module _ (q : SeatedPass) (memory : q.memory ≡ memory_given_back t p.memory (name_numbered old.kind name)) where
     -- its slot is empty then

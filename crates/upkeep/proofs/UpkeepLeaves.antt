@@ -19,8 +19,8 @@ use Rattle.upkeep.specs.UpkeepKeeper.{DealsNoMore, HasTakenByRest, HasTakenRest,
 use Rattle.upkeep.specs.UpkeepSteps.{HasGoneOnResting, KeepsSlots}
 use Rattle.tables.specs.declared.memory.NoteView.TheVariants.{MarkedOrDead}
 use Rattle.tables.specs.declared.memory.PassMemory.{PassMemory}
-use Rattle.upkeep.specs.declared.book.Known.{Known}
-use Rattle.upkeep.specs.declared.book.Known.TheVariants.{Found, Lost, Used}
+use Rattle.upkeep.specs.declared.book.SlotUse.{SlotUse}
+use Rattle.upkeep.specs.declared.book.SlotUse.TheVariants.{Found, Lost, Used}
 use Rattle.upkeep.specs.declared.book.OwnSlot.{OwnSlot}
 use Rattle.upkeep.specs.declared.book.OwnSlots.{OwnSlots}
 use Rattle.upkeep.specs.declared.keeper.Keeper.{Keeper}
@@ -101,7 +101,7 @@ module _ (t : Lasting) (p : SeatedPass) (since : List Row) (nodes : OwnSlots) (k
   -- a slot in use holds its name
   pub used_name : x.known ≡ Used → IsNameIn t p.number.0 p.memory Node (nodes.first + i) x.name
   used_name used = subst (λ (k : RecordKind). IsNameIn t p.number.0 p.memory k (nodes.first + i) x.name) kind
-      (subst (λ (k : Known). IsKnownSo t p.planting p.number.0 p.memory since nodes.kind (nodes.first + i) x.name k) used (book.slots i x (omega arith) (read_inside nodes.slots.items i x is) is))
+      (subst (λ (k : SlotUse). IsKnownSo t p.planting p.number.0 p.memory since nodes.kind (nodes.first + i) x.name k) used (book.slots i x (omega arith) (read_inside nodes.slots.items i x is) is))
 
   -- and is one of the pass's own
   pub slot_own : (lay : Layout) → t.table ≡ lay → IsOwnRecord lay p.number.0 (record_numbered Node (nodes.first + i))

@@ -9,8 +9,8 @@ use Rattle.upkeep.specs.UpkeepBook.{AreLostBy, IsBook, IsKnownSo, IsLostBy, IsSl
 use Rattle.upkeep.specs.UpkeepDeals.{IsNameAt}
 use Rattle.upkeep.specs.UpkeepKeeper.{HasTakenByRest, IsKeeper, KeepsBooks, RunsSince}
 use Rattle.upkeep.specs.UpkeepLost.{AreUnborn, IsFromTo, IsOrLoses, LosesOnly}
-use Rattle.upkeep.specs.declared.book.Known.{Known}
-use Rattle.upkeep.specs.declared.book.Known.TheVariants.{Lost, Used}
+use Rattle.upkeep.specs.declared.book.SlotUse.{SlotUse}
+use Rattle.upkeep.specs.declared.book.SlotUse.TheVariants.{Lost, Used}
 use Rattle.upkeep.specs.declared.book.OwnSlot.{OwnSlot}
 use Rattle.upkeep.specs.declared.book.OwnSlots.{OwnSlots}
 use Rattle.upkeep.specs.declared.keeper.Keeper.{Keeper}
@@ -76,7 +76,7 @@ module _ (Are : ℕ → Type 0) (old new : OwnSlots) (x : LosesOnly Are old new)
   module _ (t : Lasting) (p : SeatedPass) (since : List Row) (book : IsBook t p since old) where
     slot_lost : (i : ℕ) (s : OwnSlot) → i < length old.slots.items → IsOrLoses Are old i s → IsSlotSo t p since old.kind (old.first + i) s
     slot_lost i s inside (inl z) = book.slots i s (omega arith) inside z
-    slot_lost i s inside (inr z) = subst (λ (k : Known). IsKnownSo t p.planting p.number.0 p.memory since old.kind (old.first + i) s.name k) (sym z.1) (book.slots i (record s { known = Used }) (omega arith) inside z.0)
+    slot_lost i s inside (inr z) = subst (λ (k : SlotUse). IsKnownSo t p.planting p.number.0 p.memory since old.kind (old.first + i) s.name k) (sym z.1) (book.slots i (record s { known = Used }) (omega arith) inside z.0)
 
     pub book_lost : IsBook t p since new
     book_lost = record {

@@ -9,8 +9,8 @@ use Rattle.tables.specs.LastingOpening.{first_memory, nodes_from, scx_from}
 use Rattle.tables.specs.LastingSlots.{slot_number}
 use Rattle.upkeep.specs.UpkeepBook.{IsBook, IsNameIn, IsSlotSo, count_own, dealt_of, first_own, name_numbered, record_numbered, turn_of}
 use Rattle.tables.specs.declared.memory.PassMemory.{PassMemory}
-use Rattle.upkeep.specs.declared.book.Known.{Known}
-use Rattle.upkeep.specs.declared.book.Known.TheVariants.{Lost, Used}
+use Rattle.upkeep.specs.declared.book.SlotUse.{SlotUse}
+use Rattle.upkeep.specs.declared.book.SlotUse.TheVariants.{Lost, Used}
 use Rattle.upkeep.specs.declared.book.OwnSlot.{OwnSlot}
 use Rattle.upkeep.specs.declared.book.OwnSlots.{OwnSlots}
 use Rattle.upkeep.specs.declared.kind.RecordKind.{RecordKind}
@@ -79,5 +79,5 @@ opens_book t fit p since own is_pass memory first turn end dealt count named = r
     }
 
 -- what is in use is not lost
-pub used_apart : (k : Known) → k ≡ Used → k ≢ Lost
+pub used_apart : (k : SlotUse) → k ≡ Used → k ≢ Lost
 used_apart k e is = let z : Used ≡ Lost = sym e ∙ is in cc

@@ -17,7 +17,7 @@ use Rattle.upkeep.specs.UpkeepScx.{HasLoaded, IsDoneNoted, IsDoneTo, IsRemoval, 
 use Rattle.upkeep.specs.UpkeepSteps.{HasGoneOnResting, RestsOn}
 use Rattle.tables.specs.declared.memory.NoteView.TheVariants.{DoneWith, MarkedOrDead}
 use Rattle.tables.specs.declared.memory.PassMemory.{PassMemory}
-use Rattle.upkeep.specs.declared.book.Known.TheVariants.{Found, Used}
+use Rattle.upkeep.specs.declared.book.SlotUse.TheVariants.{Found, Used}
 use Rattle.upkeep.specs.declared.kind.RecordKind.TheVariants.{Scx}
 use Rattle.tables.specs.declared.view.SeatedPass.{SeatedPass}
 use Rattle.tables.specs.declared.view.SeatView.{SeatView}

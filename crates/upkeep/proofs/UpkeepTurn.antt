@@ -16,8 +16,8 @@ use Rattle.upkeep.specs.UpkeepSteps.{HasGoneOnResting, RestsOn}
 use Rattle.tables.specs.declared.memory.NoteView.{NoteView}
 use Rattle.tables.specs.declared.memory.NoteView.TheVariants.{DeadBy, MarkedOrDead, OutOfReach}
 use Rattle.tables.specs.declared.memory.PassMemory.{PassMemory}
-use Rattle.upkeep.specs.declared.book.Known.{Known}
-use Rattle.upkeep.specs.declared.book.Known.TheVariants.{Used, Found, Dying, Lost, Free}
+use Rattle.upkeep.specs.declared.book.SlotUse.{SlotUse}
+use Rattle.upkeep.specs.declared.book.SlotUse.TheVariants.{Used, Found, Dying, Lost, Free}
 use Rattle.upkeep.specs.declared.book.OwnSlot.{OwnSlot}
 use Rattle.upkeep.specs.declared.kind.RecordKind.{RecordKind}
 use Rattle.upkeep.specs.declared.kind.RecordKind.TheVariants.{Node, Scx}
@@ -60,7 +60,7 @@ module _ (allows : Layout → History → ℕ → Type 0) where
     }
 
 -- what is known of a slot is known later
-pub known_later : (t : Lasting) (planting : PlantingView) (o : ℕ) (m : PassMemory) (since later : List Row) → Extends (history_of planting later) (history_of planting since) → (kind : RecordKind) (slot name : ℕ) (known : Known) → IsKnownSo t planting o m since kind slot name known → IsKnownSo t planting o m later kind slot name known
+pub known_later : (t : Lasting) (planting : PlantingView) (o : ℕ) (m : PassMemory) (since later : List Row) → Extends (history_of planting later) (history_of planting since) → (kind : RecordKind) (slot name : ℕ) (known : SlotUse) → IsKnownSo t planting o m since kind slot name known → IsKnownSo t planting o m later kind slot name known
 known_later t planting o m since later on kind slot name Used x = x
 known_later t planting o m since later on kind slot name Found x = (x.0, let f = x.1 in record { rows = f.rows; noted = f.noted; before = ends_trans _ _ _ on f.before })
 known_later t planting o m since later on kind slot name Dying x = (x.0, let f = x.1 in record { rows = f.rows; noted = f.noted; before = ends_trans _ _ _ on f.before })

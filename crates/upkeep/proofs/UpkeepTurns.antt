@@ -11,7 +11,7 @@ use Rattle.tables.specs.TableRule.{history_of, past_of}
 use Rattle.upkeep.specs.UpkeepBook.{AreAllOwn, AreLostBy, AreSameSlots, AreSlotsSo, HasPeriodEnded, HasTakenBelow, HasTurnedBook, IsBook, IsKnownSo, IsLostBy, IsRecordOfKind, IsSlotSo, KeepsRests, KnowsNow, LosesNoMore, SparesOthers, count_own, dealt_of, first_own, record_numbered, turn_of}
 use Rattle.upkeep.specs.UpkeepDeals.{HasShareLeft, next_of}
 use Rattle.upkeep.specs.UpkeepSteps.{HasGoneOnResting}
-use Rattle.upkeep.specs.declared.book.Known.TheVariants.{Lost}
+use Rattle.upkeep.specs.declared.book.SlotUse.TheVariants.{Lost}
 use Rattle.upkeep.specs.declared.book.OwnSlot.{OwnSlot}
 use Rattle.upkeep.specs.declared.book.OwnSlots.{OwnSlots}
 use Rattle.upkeep.specs.declared.kind.RecordKind.{RecordKind}

@@ -21,8 +21,8 @@ use Rattle.tables.specs.declared.memory.RecordNo.{RecordNo}
 use Rattle.tables.specs.declared.memory.RecordNo.TheVariants.{Node as NodeRecord, Scx as ScxRecord}
 use Rattle.upkeep.specs.declared.kind.RecordKind.{RecordKind}
 use Rattle.upkeep.specs.declared.kind.RecordKind.TheVariants.{Node, Scx}
-use Rattle.upkeep.specs.declared.book.Known.{Known}
-use Rattle.upkeep.specs.declared.book.Known.TheVariants.{Used, Found, Dying, Lost, Free}
+use Rattle.upkeep.specs.declared.book.SlotUse.{SlotUse}
+use Rattle.upkeep.specs.declared.book.SlotUse.TheVariants.{Used, Found, Dying, Lost, Free}
 use Rattle.upkeep.specs.declared.book.OwnSlot.{OwnSlot}
 use Rattle.upkeep.specs.declared.book.OwnSlots.{OwnSlots}
 use Rattle.tables.specs.declared.view.SeatedPass.{SeatedPass}
@@ -139,7 +139,7 @@ pub record IsCleanSlot (t : Lasting) (m : PassMemory) (kind : RecordKind) (slot 
 
 -- What is known of the slot is so: what was found, or is dying, was so by the moment `since`, at
 -- which a period began. Of what is lost more is said below.
-abbrev pub IsKnownSo : Lasting → PlantingView → (o : ℕ) → PassMemory → (since : List Row) → RecordKind → (slot name : ℕ) → Known → Type 0
+abbrev pub IsKnownSo : Lasting → PlantingView → (o : ℕ) → PassMemory → (since : List Row) → RecordKind → (slot name : ℕ) → SlotUse → Type 0
 IsKnownSo t planting o m since kind slot name Used = IsNameIn t o m kind slot name
 IsKnownSo t planting o m since kind slot name Found = IsNameIn t o m kind slot name × WasFound planting m since kind name
 IsKnownSo t planting o m since kind slot name Dying = IsNameIn t o m kind slot name × WasDying planting m since kind name

@@ -15,7 +15,7 @@ use Rattle.tables.specs.TableRule.{history_of, past_of}
 use Rattle.upkeep.specs.UpkeepBook.{IsBook, IsCleanSlot, KnowsRest, LosesNoMore, dealt_of, name_numbered}
 use Rattle.tables.specs.declared.memory.PassMemory.{PassMemory}
 use Rattle.tables.specs.declared.memory.RecordNo.{RecordNo}
-use Rattle.upkeep.specs.declared.book.Known.TheVariants.{Free, Used}
+use Rattle.upkeep.specs.declared.book.SlotUse.TheVariants.{Free, Used}
 use Rattle.upkeep.specs.declared.book.OwnSlot.{OwnSlot}
 use Rattle.upkeep.specs.declared.book.OwnSlots.{OwnSlots}
 use Rattle.upkeep.specs.declared.kind.RecordKind.{RecordKind}

@@ -3,7 +3,7 @@ use Rattle.std.specs.Prelude.{◌≡◌, ◌<◌, ◌+◌, ℕ, [], Option, Some
 use Rattle.resting.specs.Lookups.{WasLeafOf}
 use Rattle.tables.specs.TableRule.{past_of}
 use Rattle.tables.specs.declared.view.SeatedPass.{SeatedPass}
-use Rattle.upkeep.specs.declared.book.Known.TheVariants.{Used}
+use Rattle.upkeep.specs.declared.book.SlotUse.TheVariants.{Used}
 use Rattle.upkeep.specs.declared.keeper.Keeper.{Keeper}
 use Rattle.upkeep.specs.declared.leaf.OwnLeaf.{OwnLeaf}
 

@@ -4,7 +4,7 @@ use Rattle.ordered_map.specs.declared.reply.Reply.{Reply}
 use Rattle.ordered_map.specs.declared.reply.Reply.TheVariants.{Contended, Full}
 use Rattle.resting.specs.Dead.{IsUnborn}
 use Rattle.tables.specs.TableRule.{past_of}
-use Rattle.upkeep.specs.declared.book.Known.TheVariants.{Lost, Used}
+use Rattle.upkeep.specs.declared.book.SlotUse.TheVariants.{Lost, Used}
 use Rattle.upkeep.specs.declared.book.OwnSlot.{OwnSlot}
 use Rattle.upkeep.specs.declared.book.OwnSlots.{OwnSlots}
 use Rattle.tables.specs.declared.view.SeatedPass.{SeatedPass}

@@ -5,7 +5,7 @@ use crate::kind::RecordKind;
 
 /// What is known of a slot.
 #[derive(Clone, Copy, Debug, PartialEq, Eq)]
-pub enum Known {
+pub enum SlotUse {
     /// Its record is in use, or was not looked at since.
     Used,
     /// Its record was marked or dead at some moment.
@@ -22,7 +22,7 @@ pub enum Known {
 #[derive(Clone, Copy, Debug)]
 pub struct OwnSlot {
     pub name: u64,
-    pub known: Known,
+    pub known: SlotUse,
 }
 
 /// The slots of a pass, of one kind, from the first one on, and which names they get. They are made
@@ -51,7 +51,7 @@ impl OwnSlots {
         let free = self
             .slots
             .iter()
-            .filter(|slot| slot.known == Known::Free)
+            .filter(|slot| slot.known == SlotUse::Free)
             .count();
         let spare = free.saturating_sub(self.slots.len() / 4);
         self.dealt.saturating_add(spare as u64)

@@ -7,9 +7,9 @@ ghost use Rattle.tables.specs.declared.view.SeatedPass.{SeatedPass};
 ghost use Rattle.upkeep.specs.UpkeepBook.{IsAtLasting, IsBook, slots_in};
 ghost use Rattle.upkeep.specs.UpkeepDeals.{AreSlotsStill, DealsOn, HasDealt, HasShareLeft, HasNameFor, IsFreeAt, IsNameAt, next_of};
 ghost use Rattle.upkeep.specs.UpkeepSteps.{RestsOn};
-ghost use Rattle.upkeep.specs.declared.book.Known.{Known};
+ghost use Rattle.upkeep.specs.declared.book.SlotUse.{SlotUse};
 
-use crate::book::{Known, OwnSlot, OwnSlots};
+use crate::book::{OwnSlot, OwnSlots, SlotUse};
 use crate::clean::clean;
 use crate::kind::RecordName;
 use crate::names::{Given, give_back, give_next, pass_to};
@@ -26,7 +26,7 @@ impl OwnSlots {
         ensures { IsTrue result → IsFreeAt self.now i }
     {
         match self.slots[i].known {
-            Known::Free => true,
+            SlotUse::Free => true,
             _ => false,
         }
     }
@@ -60,11 +60,11 @@ impl OwnSlots {
         ensures still { AreSlotsStill self.old self.new }
         ensures dealt { self.new.dealt ≡ name + 1 }
         ensures slots { self.new.slots.items
-            ≡ set self.old.slots.items i record { name = name; known = Known.Used } }
+            ≡ set self.old.slots.items i record { name = name; known = SlotUse.Used } }
     {
         self.slots[i] = OwnSlot {
             name,
-            known: Known::Used,
+            known: SlotUse::Used,
         };
         self.dealt = name + 1;
     }
@@ -141,7 +141,7 @@ impl OwnSlots {
         match self.slots.as_slice().get(i)? {
             OwnSlot {
                 name: held,
-                known: Known::Used,
+                known: SlotUse::Used,
             } if *held == name => Some(i),
             _ => None,
         }
@@ -154,11 +154,11 @@ impl OwnSlots {
         ensures still { AreSlotsStill self.old self.new }
         ensures dealt { self.new.dealt ≡ name }
         ensures slots { self.new.slots.items
-            ≡ set self.old.slots.items i record { name = name; known = Known.Free } }
+            ≡ set self.old.slots.items i record { name = name; known = SlotUse.Free } }
     {
         self.slots[i] = OwnSlot {
             name,
-            known: Known::Free,
+            known: SlotUse::Free,
         };
         self.dealt = name;
     }
@@ -297,7 +297,7 @@ const ENOUGH: usize = 64;
 
 /// Slots that are free, one behind the other.
 #[derive(Clone, Copy)]
-struct Run {
+struct FreeRun {
     start: usize,
     count: usize,
 }
@@ -315,11 +315,11 @@ impl OwnSlots {
     }
 
     /// The longest run of free slots between these two, or the first that is long enough.
-    fn run_between(&self, from: usize, to: usize) -> Run
+    fn run_between(&self, from: usize, to: usize) -> FreeRun
         requires { to ≤ length self.now.slots.items }
         ensures { 0 < result.count → result.start < length self.now.slots.items }
     {
-        let mut best = Run {
+        let mut best = FreeRun {
             start: from,
             count: 0,
         };
@@ -328,7 +328,7 @@ impl OwnSlots {
             if !self.is_free(i) {
                 start = i + 1;
             } else if best.count < i + 1 - start {
-                best = Run {
+                best = FreeRun {
                     start,
                     count: i + 1 - start,
                 };

@@ -13,9 +13,9 @@ ghost use Rattle.upkeep.specs.UpkeepDeals.{DealsOn};
 ghost use Rattle.upkeep.specs.UpkeepKeeper.{IsKeeper, IsSetNow, IsSetToCall};
 ghost use Rattle.upkeep.specs.UpkeepLeaves.{HasReadLeafAt, IsLeafAt};
 ghost use Rattle.upkeep.specs.UpkeepSteps.{RestsOn};
-ghost use Rattle.upkeep.specs.declared.book.Known.{Known};
+ghost use Rattle.upkeep.specs.declared.book.SlotUse.{SlotUse};
 
-use crate::book::{Known, OwnSlot};
+use crate::book::{OwnSlot, SlotUse};
 use crate::keeper::Keeper;
 use crate::leaf::{OwnLeaf, leaf_key};
 use crate::looks::note_out;
@@ -86,7 +86,7 @@ impl Keeper {
     {
         let name = known.name;
         match known.known {
-            Known::Used if name < self.taken => self.read_leaf(words, layout, seat, index, name),
+            SlotUse::Used if name < self.taken => self.read_leaf(words, layout, seat, index, name),
             _ => None,
         }
     }
@@ -103,7 +103,7 @@ impl Keeper {
         requires { (p : SeatedPass) × IsAtLasting words.now layout.now seat.old p
             × IsKeeper (slots_in words.now) p self.now
             × (slice_get self.now.nodes.slots.items index
-            ≡ Some record { name = name; known = Known.Used }) × (name < self.now.taken) }
+            ≡ Some record { name = name; known = SlotUse.Used }) × (name < self.now.taken) }
         ensures table { IsSameSeat seat.old seat.new }
         ensures slot { IfSome result (IsLeafAt self.now index) }
         ensures read { RestsOn S.allows (HasReadLeafAt result) seat.old.me.0 seat.new.me.0 }
@@ -181,7 +181,7 @@ impl Keeper {
         note_out(words, layout, seat, at, found.name);
         self.nodes.slots[found.index] = OwnSlot {
             name: found.name,
-            known: Known::Found,
+            known: SlotUse::Found,
         };
     }
 }

@@ -2,7 +2,7 @@
 ghost use Rattle.std.specs.Prelude.{◌≡◌};
 ghost use Rattle.upkeep.specs.UpkeepLost.{IsFromTo, LosesOnly};
 
-use crate::book::{Known, OwnSlot, OwnSlots};
+use crate::book::{OwnSlot, OwnSlots, SlotUse};
 
 impl OwnSlots {
     /// The slots of the names from this one on, up to that one, are lost, where they are in use.
@@ -21,7 +21,7 @@ impl OwnSlots {
         if let Some(i) = self.slot_of(name) {
             self.slots[i] = OwnSlot {
                 name,
-                known: Known::Lost,
+                known: SlotUse::Lost,
             };
         }
     }

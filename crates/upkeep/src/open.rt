@@ -8,7 +8,7 @@ ghost use Rattle.tables.specs.declared.view.SeatedPass.{SeatedPass};
 ghost use Rattle.upkeep.specs.UpkeepBook.{HasNoneLost, IsBook};
 ghost use Rattle.upkeep.specs.UpkeepOpening.{AreNamesOf, ArePlacesOf};
 
-use crate::book::{Known, OwnSlot, OwnSlots};
+use crate::book::{OwnSlot, OwnSlots, SlotUse};
 use crate::kind::RecordKind;
 use arena::{Layout, NoMemory, PassNo};
 use std::alloc::Global;
@@ -98,7 +98,7 @@ pub fn open_slots(
     for i in 0..at.count {
         slots.push(OwnSlot {
             name: at.name + u64::from(i),
-            known: Known::Used,
+            known: SlotUse::Used,
         })?;
     }
     Ok(OwnSlots {

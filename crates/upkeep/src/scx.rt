@@ -17,7 +17,7 @@ ghost use Rattle.upkeep.specs.UpkeepBook.{IsAtLasting, IsNameIn, KnowsNow, NowRe
 ghost use Rattle.upkeep.specs.UpkeepDeals.{HasShareLeft};
 ghost use Rattle.upkeep.specs.UpkeepScx.{HasLoaded, IsDoneNoted};
 ghost use Rattle.upkeep.specs.UpkeepSteps.{RestsOn};
-ghost use Rattle.upkeep.specs.declared.book.Known.{Known};
+ghost use Rattle.upkeep.specs.declared.book.SlotUse.{SlotUse};
 ghost use Rattle.upkeep.specs.declared.kind.RecordKind.{RecordKind};
 
 use crate::kind::RecordName;
@@ -231,7 +231,7 @@ pub fn is_over<S: Shape>(
         × IsTaken (past_of p []) (record_numbered RecordKind.Scx name) }
     ensures table { IsSameSeat seat.old seat.new }
     ensures looked { RestsOn S.allows (KnowsNow (slots_in words.now) RecordKind.Scx slot
-        record { name = name; known = if result then Known.Found else Known.Used })
+        record { name = name; known = if result then SlotUse.Found else SlotUse.Used })
         seat.old.me.0 seat.new.me.0 }
 {
     let at = layout.place(Word::Scx(ScxNo(slot), ScxWord::State));

@@ -12,9 +12,9 @@ ghost use Rattle.tables.specs.declared.view.SeatedPass.{SeatedPass};
 ghost use Rattle.upkeep.specs.UpkeepDeals.{HasShareLeft};
 ghost use Rattle.upkeep.specs.UpkeepSteps.{RestsOn};
 ghost use Rattle.upkeep.specs.UpkeepBook.{AreLostBy, AreSameSlots, HasPeriodEnded, HasFreed, HasTakenBelow, HasTurnedBook, IsAtLasting, IsBook, IsLostBy, IsNameIn, IsSlotSo, KnowsNow, WasDying, name_numbered, record_numbered, slots_in};
-ghost use Rattle.upkeep.specs.declared.book.Known.{Known};
+ghost use Rattle.upkeep.specs.declared.book.SlotUse.{SlotUse};
 
-use crate::book::{Known, OwnSlot, OwnSlots};
+use crate::book::{OwnSlot, OwnSlots, SlotUse};
 use crate::clean::{clean, let_go};
 use crate::kind::{RecordKind, RecordName};
 use crate::looks::{is_marked, note_dying, note_gone, note_unneeded};
@@ -76,39 +76,39 @@ fn turn<S: Shape>(
         × IsOwnRecord layout.now p.number.0 (record_numbered kind slot)
         × HasPeriodEnded (slots_in words.now) p since × HasTakenBelow p kind next
         × IsSlotSo (slots_in words.now) p since kind slot known
-        × (left : Remaining) × HasShareLeft S.allows p left × (known.known ≡ Known.Lost
+        × (left : Remaining) × HasShareLeft S.allows p left × (known.known ≡ SlotUse.Lost
         → IsLostBy p.layout p.number.0 (history_of p.planting p.memory.rested) kind known.name) }
     ensures table { IsSameSeat seat.old seat.new }
-    ensures lost { result.known ≡ Known.Lost → result ≡ known }
+    ensures lost { result.known ≡ SlotUse.Lost → result ≡ known }
     ensures turned { RestsOn S.allows (KnowsNow (slots_in words.now) kind slot result)
         seat.old.me.0 seat.new.me.0 }
 {
     let name = known.name;
     match known.known {
-        Known::Used if name < next => OwnSlot {
+        SlotUse::Used if name < next => OwnSlot {
             name,
             known: look_at(words, layout, seat, kind, slot, name, node_turn),
         },
-        Known::Found => {
+        SlotUse::Found => {
             let at = layout.place(word_at(kind, slot, 0));
             note_dying(words, layout, seat, at, RecordName { kind, number: name });
             OwnSlot {
                 name,
-                known: Known::Dying,
+                known: SlotUse::Dying,
             }
         }
-        Known::Dying if name < next => {
+        SlotUse::Dying if name < next => {
             free(words, layout, seat, kind, slot, name);
             OwnSlot {
                 name,
-                known: Known::Free,
+                known: SlotUse::Free,
             }
         }
-        Known::Lost if name < next => {
+        SlotUse::Lost if name < next => {
             free_lost(words, layout, seat, kind, slot, name);
             OwnSlot {
                 name,
-                known: Known::Free,
+                known: SlotUse::Free,
             }
         }
         _ => known,
@@ -124,7 +124,7 @@ fn look_at<S: Shape>(
     slot: u64,
     name: u64,
     node_turn: u64,
-) -> Known
+) -> SlotUse
     requires turn { (0 < node_turn) × (node_turn ≡ (slots_in words.now).node_turn) }
     requires pass { (p : SeatedPass) × IsAtLasting words.now layout.now seat.old p
         × IsOwnRecord layout.now p.number.0 (record_numbered kind slot)
@@ -132,7 +132,7 @@ fn look_at<S: Shape>(
         × IsTaken (past_of p []) (record_numbered kind name)
         × (left : Remaining) × HasShareLeft S.allows p left }
     ensures table { IsSameSeat seat.old seat.new }
-    ensures lost { result ≢ Known.Lost }
+    ensures lost { result ≢ SlotUse.Lost }
     ensures looked { RestsOn S.allows
         (KnowsNow (slots_in words.now) kind slot record { name = name; known = result })
         seat.old.me.0 seat.new.me.0 }
@@ -140,16 +140,16 @@ fn look_at<S: Shape>(
     match kind {
         RecordKind::Node => {
             if is_marked(words, layout, seat, slot, name) {
-                Known::Found
+                SlotUse::Found
             } else {
-                Known::Used
+                SlotUse::Used
             }
         }
         RecordKind::Scx => {
             if is_over(words, layout, seat, slot, name, node_turn) {
-                Known::Found
+                SlotUse::Found
             } else {
-                Known::Used
+                SlotUse::Used
             }
         }
     }

@@ -1,5 +1,5 @@
 use Rattle.std.proofs.Common.{List, Option, inl, inr, arith, ap, subst, ◌∙◌}
-use Rattle.capi.specs.declared.presence.Client.{Client}
+use Rattle.capi.specs.declared.presence.Presence.{Presence}
 use Rattle.capi.specs.Answers.{counted}
 use Rattle.capi.specs.Ends.{AreEnough, HaveEndedWith, held_in}
 use Rattle.capi.proofs.Ends.{enough, too_few}
@@ -27,7 +27,7 @@ returns-in-Some-end c = inr (record {
   empty = c.end.ensures.empty;
   told = inr (record {
     pairs = c.in-Some-end.pairs.items;
-    left = subst (λ (held : List (Option Client)). HaveEndedWith held c.in-Some-end.pairs.items) c.all_of.ensures.same c.in-Some-end.ensures.left;
+    left = subst (λ (held : List (Option Presence)). HaveEndedWith held c.in-Some-end.pairs.items) c.all_of.ensures.same c.in-Some-end.ensures.left;
     count = c.of_pairs.ensures.count ∙ ap counted c.in-Some-end.pairs.ok.0;
     put = c.of_pairs.ensures.put;
   });

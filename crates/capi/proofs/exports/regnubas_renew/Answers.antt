@@ -1,7 +1,7 @@
 use Rattle.std.proofs.Common.{◌↔◌, IsTrue, All, List, Option, inl, inr, arith, subst, ◌∙◌}
 use Rattle.arena.specs.Limits.{IsAccepted}
 use Rattle.arena.specs.declared.limits.Limits.{Limits}
-use Rattle.capi.specs.declared.presence.Client.{Client}
+use Rattle.capi.specs.declared.presence.Presence.{Presence}
 use Rattle.capi.specs.Begins.{NextSays}
 use Rattle.capi.specs.Ends.{AreEnough, HaveEndedWith, IsOfTrie, held_in}
 use Rattle.capi.proofs.Ends.{enough, too_few}
@@ -33,11 +33,11 @@ returns-in-Some-end c =
       all = are_enough (goal.at.returns-in-Some-end c).After-end;
       told = inr (record {
         pairs = pairs;
-        left = subst (λ (held : List (Option Client)). HaveEndedWith held pairs) (c.are_of_trie-trie.ensures.same ∙ c.all_of.ensures.same) c.in-Some-end.ensures.left;
+        left = subst (λ (held : List (Option Presence)). HaveEndedWith held pairs) (c.are_of_trie-trie.ensures.same ∙ c.all_of.ensures.same) c.in-Some-end.ensures.left;
         count = c.begin_next.ensures.count ∙ c.in-Some-end.pairs.ok.0;
         put = c.begin_next.ensures.put;
         trie = trie;
-        shape = subst (λ (held : List (Option Client)). IsTrue trie ↔ All IsOfTrie held) c.all_of.ensures.same c.are_of_trie-trie.ensures.told;
+        shape = subst (λ (held : List (Option Presence)). IsTrue trie ↔ All IsOfTrie held) c.all_of.ensures.same c.are_of_trie-trie.ensures.told;
         next = subst (λ (l : Limits). NextSays trie l pairs c.begin_next.new.passes c.begin_next.result.status) limits.0 c.begin_next.ensures.next;
       });
     })

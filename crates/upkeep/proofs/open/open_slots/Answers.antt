@@ -3,7 +3,7 @@ use Rattle.arena.specs.declared.number.PassNo.{PassNo}
 use Rattle.tables.specs.LastingOpening.{first_memory}
 use Rattle.tables.specs.Slotted.{in_turns}
 use Rattle.upkeep.specs.UpkeepBook.{count_own, first_own}
-use Rattle.upkeep.specs.declared.book.Known.TheVariants.{Used}
+use Rattle.upkeep.specs.declared.book.SlotUse.TheVariants.{Used}
 use Rattle.upkeep.specs.declared.book.OwnSlot.{OwnSlot}
 use Rattle.upkeep.proofs.UpkeepOpening.{opens_book, used_apart}
 use Rattle.upkeep.proofs.open.open_slots.Goals as goal

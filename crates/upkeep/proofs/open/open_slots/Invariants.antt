@@ -1,5 +1,5 @@
 use Rattle.std.proofs.Common.{◌≡◌, ◌+◌, ℕ, Some, length, slice_get}
-use Rattle.upkeep.specs.declared.book.Known.TheVariants.{Used}
+use Rattle.upkeep.specs.declared.book.SlotUse.TheVariants.{Used}
 use Rattle.upkeep.specs.declared.book.OwnSlot.{OwnSlot}
 use Rattle.upkeep.proofs.open.open_slots.Given as goal
 

@@ -4,7 +4,7 @@ use Rattle.tables.specs.TableRule.{past_of}
 use Rattle.upkeep.specs.UpkeepBook.{IsNameIn, KnowsNow, NowRemembers, memory_with_note, name_numbered, record_numbered, slots_in}
 use Rattle.upkeep.specs.UpkeepSteps.{RestsOn}
 use Rattle.tables.specs.declared.memory.NoteView.TheVariants.{MarkedOrDead}
-use Rattle.upkeep.specs.declared.book.Known.TheVariants.{Found, Used}
+use Rattle.upkeep.specs.declared.book.SlotUse.TheVariants.{Found, Used}
 use Rattle.upkeep.specs.declared.kind.RecordKind.{RecordKind}
 use Rattle.upkeep.specs.declared.kind.RecordKind.TheVariants.{Node, Scx}
 use Rattle.upkeep.proofs.UpkeepTurn.{as_known, marked_now, unmarked_now}

@@ -1,6 +1,6 @@
 use Rattle.std.proofs.Common.{refl}
 use Rattle.std.proofs.lemmas.List.{length-set}
-use Rattle.upkeep.specs.declared.book.Known.TheVariants.{Lost}
+use Rattle.upkeep.specs.declared.book.SlotUse.TheVariants.{Lost}
 use Rattle.upkeep.proofs.UpkeepLost.{loses_none, one_lost}
 use Rattle.upkeep.proofs.book.OwnSlots.lose_one.Goals as goal
 

@@ -1,6 +1,6 @@
 use Rattle.std.proofs.Common.{length, refl}
 use Rattle.std.proofs.lemmas.List.{length-set}
-use Rattle.upkeep.specs.declared.book.Known.TheVariants.{Used, Lost}
+use Rattle.upkeep.specs.declared.book.SlotUse.TheVariants.{Used, Lost}
 use Rattle.upkeep.proofs.UpkeepTurns.{lost_put}
 use Rattle.upkeep.proofs.book.OwnSlots.put.Goals as goal
 

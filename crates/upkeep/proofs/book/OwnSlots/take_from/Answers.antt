@@ -1,6 +1,6 @@
 use Rattle.std.proofs.Common.{length, refl}
 use Rattle.std.proofs.lemmas.List.{length-set}
-use Rattle.upkeep.specs.declared.book.Known.TheVariants.{Free, Lost}
+use Rattle.upkeep.specs.declared.book.SlotUse.TheVariants.{Free, Lost}
 use Rattle.upkeep.proofs.UpkeepTurns.{lost_put}
 use Rattle.upkeep.proofs.book.OwnSlots.take_from.Goals as goal
 

@@ -4,7 +4,7 @@ use Rattle.histories.proofs.Lemmas.{own_node_inside}
 use Rattle.ordered_map.specs.Paths.{IsAnswerAt}
 use Rattle.resting.specs.Lookups.{WasLeafOf}
 use Rattle.tables.specs.TableRule.{past_of}
-use Rattle.upkeep.specs.declared.book.Known.TheVariants.{Used}
+use Rattle.upkeep.specs.declared.book.SlotUse.TheVariants.{Used}
 use Rattle.upkeep.specs.UpkeepBook.{NowRemembers, memory_with_note, name_numbered, slots_in}
 use Rattle.upkeep.specs.UpkeepKeeper.{IsSetNow}
 use Rattle.upkeep.specs.UpkeepLeaves.{HasReadLeafAt, IsLeafAt}

@@ -3,7 +3,7 @@ use Rattle.resting.specs.Lookups.{WasLeafOf}
 use Rattle.tables.specs.TableRule.{past_of}
 use Rattle.upkeep.specs.UpkeepBook.{slots_in}
 use Rattle.upkeep.specs.UpkeepLeaves.{HasReadLeaf, HasReadLeafAt}
-use Rattle.upkeep.specs.declared.book.Known.TheVariants.{Used}
+use Rattle.upkeep.specs.declared.book.SlotUse.TheVariants.{Used}
 use Rattle.upkeep.specs.declared.book.OwnSlot.{OwnSlot}
 use Rattle.upkeep.specs.declared.leaf.OwnLeaf.{OwnLeaf}
 use Rattle.upkeep.proofs.UpkeepLeaves.{read_inside, slot_own, used_name}

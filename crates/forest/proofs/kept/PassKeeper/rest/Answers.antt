@@ -5,7 +5,7 @@ use Rattle.upkeep.specs.UpkeepDeals.{DealsOn}
 use Rattle.upkeep.specs.UpkeepKeeper.{IsSetNow}
 use Rattle.forest.proofs.Rested.{set_kept, slots_kept}
 use Rattle.upkeep.proofs.UpkeepDeals.{deals_not}
-use Rattle.forest.proofs.kept.Kept.rest.Goals as goal
+use Rattle.forest.proofs.kept.PassKeeper.rest.Goals as goal
 
 pub rest-requires : goal.rest-requires
 rest-requires g c =

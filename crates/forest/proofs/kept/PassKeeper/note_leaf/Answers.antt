@@ -5,7 +5,7 @@ use Rattle.upkeep.specs.UpkeepDeals.{DealsOn}
 use Rattle.upkeep.specs.UpkeepKeeper.{IsSetNow}
 use Rattle.forest.proofs.Rested.{set_kept, slots_kept}
 use Rattle.upkeep.proofs.UpkeepDeals.{deals_not}
-use Rattle.forest.proofs.kept.Kept.note_leaf.Goals as goal
+use Rattle.forest.proofs.kept.PassKeeper.note_leaf.Goals as goal
 
 pub note_leaf-requires : goal.note_leaf-requires
 note_leaf-requires g c =

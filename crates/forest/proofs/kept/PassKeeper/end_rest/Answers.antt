@@ -11,7 +11,7 @@ use Rattle.tables.proofs.Slotted.{table_is}
 use Rattle.upkeep.proofs.UpkeepDeals.{deals_not}
 use Rattle.upkeep.proofs.UpkeepKeeper.{waits_for_other}
 use Rattle.upkeep.proofs.UpkeepSet.{from_dealing}
-use Rattle.forest.proofs.kept.Kept.end_rest.Goals as goal
+use Rattle.forest.proofs.kept.PassKeeper.end_rest.Goals as goal
 
 pub end_rest-requires : goal.end_rest-requires
 end_rest-requires g c =
