@@ -10,13 +10,14 @@ ghost use Rattle.regnubas.specs.Passes.{IsOf};
 
 use anyhow::Result;
 use due::Due;
-use regnubas::{ByOrder, Dict, Forest, Lasts, Limits, Pass, UpdateFault};
+use regnubas::{ByBits, Dict, Forest, Lasts, Limits, Pass, UpdateFault};
 use std::alloc::{AllocError, Global};
 use std::sync::atomic::{AtomicU64, Ordering};
 use std::thread::{Threads, map_vec, yield_now};
 
-/// From when a job is due to how often it is still to run.
-type Queue = Dict<Due, u32, Lasts<ByOrder>>;
+/// From when a job is due to how often it is still to run. It is a trie, whose pops leave no mark:
+/// its passes look up what they have popped as they rest, or their 64 nodes would be used up.
+type Queue = Dict<Due, u32, Lasts<ByBits>>;
 
 /// A pass for each thread, with what it may have in use at a time.
 const LIMITS: Limits = Limits {
