@@ -35,6 +35,28 @@ impl<'a, S: TableShape> Hand<'a, S> {
     ghost use Rattle.straight.specs.Hands.{IsHandOf, hand_slots, names};
     ghost use Rattle.tables.specs.Slotted.{node_begins, scx_begins, word_begins};
 
+    /// The same by this copy of the plan, where records come back: only of a copy that nothing else
+    /// sees does the compiler know that no step changes it, and a slot is found by the plan's masks.
+    /// Where they do not, it is left as it is.
+    #[inline(always)]
+    pub fn by_copy(self, plan: &'a TablePlan) -> Hand<'a, S>
+        requires copied { plan.now ≡ self.plan.now }
+        ensures words { result.words ≡ self.words }
+        ensures plan { result.plan.now ≡ self.plan.now }
+        ensures number { result.number ≡ self.number }
+    {
+        if S::lasts() {
+            Hand {
+                words: self.words,
+                plan,
+                number: self.number,
+                size: self.size,
+            }
+        } else {
+            self
+        }
+    }
+
     /// Where the words of a node begin: in the slot that its name says.
     #[inline(always)]
     pub fn node_start(self, node: NodeNo) -> usize

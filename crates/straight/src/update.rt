@@ -114,10 +114,8 @@ fn try_on<S: TableShape, M: CallMachine<S>, E: Edit + Copy>(
     ensures { TryEnds S.Shape M.Machine M.left_dealt E.means hand.entry found.now
         seat.old run.old next seat.new run.new result }
 {
-    let looked = look_on::<S, M, E>(hand, seat, run, found, next);
-    let loaded = read_on::<S, M, E>(hand, seat, run, found, looked);
-    let worked = fill_on::<S, M, E>(hand, seat, run, found, loaded);
-    match worked {
+    let plan = *hand.plan;
+    match work_on::<S, M, E>(hand.by_copy(&plan), seat, run, found, next) {
         Ok(now) => match now {
             Next::Change(scx) => change::<S, M, E>(hand, seat, run, found, scx),
             _ => resume::from_next::<S, M, E>(hand, seat, run, found, Ok(now)),
@@ -128,6 +126,26 @@ fn try_on<S: TableShape, M: CallMachine<S>, E: Edit + Copy>(
             Stop::Lost { .. } => { resume::from_next::<S, M, E>(hand, seat, run, found, Err(stop)) }
         },
     }
+}
+
+/// Makes the looks, the loads and the fills that come next.
+#[inline(always)]
+fn work_on<S: TableShape, M: CallMachine<S>, E: Edit + Copy>(
+    hand: Hand<S>,
+    seat: &mut Seat<u8, SeatView>,
+    run: &mut UpdateRun<E, ()>,
+    found: &Found,
+    next: Result<Next, Stop>,
+) -> Result<Next, Stop>
+    requires table { IsAt S.mode S.lasts hand seat.old }
+    requires goes_on { StandsToTry S.Shape M.Machine M.left_dealt E.means hand found.now seat.old
+        run.old next }
+    ensures { TryGoesOn S.Shape M.Machine M.left_dealt E.means hand.entry found.now
+        seat.old run.old next seat.new run.new result }
+{
+    let looked = look_on::<S, M, E>(hand, seat, run, found, next);
+    let loaded = read_on::<S, M, E>(hand, seat, run, found, looked);
+    fill_on::<S, M, E>(hand, seat, run, found, loaded)
 }
 
 /// Makes the looks that come next.
