@@ -19,7 +19,7 @@ use crate::filled_once::FilledOnce;
 use crate::forest::Forest;
 use crate::kept::note_lost;
 use crate::pass::Pass;
-use arena::{Limits, NoMemory, PassNo, Shape, Share};
+use arena::{Limits, NoMemory, NodeNo, ScxNo, Shape, Share};
 use dict::{Dict, DictRun, Reply, Request, WordKey, WordValue, number_of, value_of};
 use order::leaf_way;
 use resting::unborn_stays_out;
@@ -120,6 +120,7 @@ impl<K: WordKey, V: WordValue, B: Keeping> Forest<Dict<K, V, B>> {
     /// three nodes and an SCX-record of the pass's share in a try, and no memory. The pass blames
     /// the SCX-record that `Contended` names. After Brown, Ellen and Ruppert (PPoPP 2014), as are
     /// the other edits.
+    #[inline(always)]
     pub fn insert(
         &self,
         pass: &mut Pass<Dict<K, V, B>>,
@@ -139,6 +140,7 @@ impl<K: WordKey, V: WordValue, B: Keeping> Forest<Dict<K, V, B>> {
     /// Sets a key to a value if it has none, and returns the value that it has otherwise: then the
     /// map is as it was. It takes at most three nodes and an SCX-record of the pass's share in a
     /// try, and no memory.
+    #[inline(always)]
     pub fn insert_new(
         &self,
         pass: &mut Pass<Dict<K, V, B>>,
@@ -157,6 +159,7 @@ impl<K: WordKey, V: WordValue, B: Keeping> Forest<Dict<K, V, B>> {
 
     /// Removes a key, and returns the value that it had just before. It takes at most a node and
     /// an SCX-record of the pass's share in a try, and no memory.
+    #[inline(always)]
     pub fn delete(&self, pass: &mut Pass<Dict<K, V, B>>, key: &K) -> Result<Option<V>, UpdateFault>
         requires pass { IsOf self.now pass.old }
         ensures { HasCalledIn (B.trie B.the) K.is_valid K.word_of V.is_valid V.word_of self.now
@@ -169,6 +172,7 @@ impl<K: WordKey, V: WordValue, B: Keeping> Forest<Dict<K, V, B>> {
     /// Removes a key that has the expected value, and returns the value that the key had just
     /// before: the map is changed if that is the one expected. It takes at most a node and an
     /// SCX-record of the pass's share in a try, and no memory.
+    #[inline(always)]
     pub fn delete_if(
         &self,
         pass: &mut Pass<Dict<K, V, B>>,
@@ -186,6 +190,7 @@ impl<K: WordKey, V: WordValue, B: Keeping> Forest<Dict<K, V, B>> {
 
     /// Removes the pair with the least key, if there is one, and returns it. It takes at most a
     /// node and an SCX-record of the pass's share in a try, and no memory.
+    #[inline(always)]
     pub fn pop_first(&self, pass: &mut Pass<Dict<K, V, B>>) -> Result<Option<(K, V)>, UpdateFault>
         requires pass { IsOf self.now pass.old }
         ensures { HasCalledIn (B.trie B.the) K.is_valid K.word_of V.is_valid V.word_of self.now
@@ -197,6 +202,7 @@ impl<K: WordKey, V: WordValue, B: Keeping> Forest<Dict<K, V, B>> {
 
     /// Removes the pair with the greatest key, if there is one, and returns it. It takes at most a
     /// node and an SCX-record of the pass's share in a try, and no memory.
+    #[inline(always)]
     pub fn pop_last(&self, pass: &mut Pass<Dict<K, V, B>>) -> Result<Option<(K, V)>, UpdateFault>
         requires pass { IsOf self.now pass.old }
         ensures { HasCalledIn (B.trie B.the) K.is_valid K.word_of V.is_valid V.word_of self.now
@@ -209,6 +215,7 @@ impl<K: WordKey, V: WordValue, B: Keeping> Forest<Dict<K, V, B>> {
     /// Sets a key that has the expected value to another, and returns the value that the key had
     /// just before: the map is changed if that is the one expected. It takes at most a node and an
     /// SCX-record of the pass's share in a try, and no memory.
+    #[inline(always)]
     pub fn replace_if(
         &self,
         pass: &mut Pass<Dict<K, V, B>>,
@@ -351,13 +358,14 @@ impl<K: WordKey, V: WordValue, B: Keeping> Forest<Dict<K, V, B>> {
         unborn_stays_out();
         let number = pass.taken();
         let (from, _) = pass.share.next();
-        let share = replace(&mut pass.share, Share::of(&self.plan.layout, PassNo(0)));
         let hand = Hand {
             words: &self.words,
             plan: &self.plan,
             number,
             size: Dict::<K, V, B>::node_size(),
         };
+        let nothing = Share::of_run(NodeNo(0), 0, ScxNo(0), 0);
+        let share = replace(&mut pass.share, nothing);
         let seat = &mut pass.seat;
         let (told, share) = calls::make(hand, seat, share, self.tries, edit);
         let (to, _) = share.next();

@@ -68,13 +68,11 @@ impl<K: WordKey, V: WordValue, B: FixedBalance> Forest<Dict<K, V, Lasts<B>>> {
         ensures rested { HasOnlyRested (TypedAllows (IsWordOf K.is_valid K.word_of) (IsWordOf V.is_valid V.word_of))
             pass.old pass.new }
     {
-        let Some(mut kept) = pass.kept.take() else {
+        let Some(own) = &mut pass.kept else {
             return None;
         };
         let (words, layout) = (&self.words, &self.plan.layout);
-        let leaf = kept.next_leaf(words, self.turns, layout, &mut pass.seat, &pass.share);
-        pass.kept = Some(kept);
-        leaf
+        own.next_leaf(words, self.turns, layout, &mut pass.seat, &pass.share)
     }
 
     /// Looks up the key of this leaf, by a get. If the map does not have it, the leaf is out: it is
@@ -100,11 +98,10 @@ impl<K: WordKey, V: WordValue, B: FixedBalance> Forest<Dict<K, V, Lasts<B>>> {
         if value_of::<V>(found.value).is_some() {
             return;
         }
-        let Some(mut kept) = pass.kept.take() else {
+        let Some(own) = &mut pass.kept else {
             return;
         };
         let (words, layout) = (&self.words, &self.plan.layout);
-        kept.note_leaf(words, self.turns, layout, &mut pass.seat, &pass.share, leaf);
-        pass.kept = Some(kept);
+        own.note_leaf(words, self.turns, layout, &mut pass.seat, &pass.share, leaf);
     }
 }

@@ -46,13 +46,12 @@ impl<K: WordKey, V: WordValue, B: FixedBalance> Forest<Dict<K, V, Lasts<B>>> {
         ensures rested { HasOnlyRested (TypedAllows (IsWordOf K.is_valid K.word_of) (IsWordOf V.is_valid V.word_of))
             pass.old pass.new }
     {
-        let Some(mut own) = pass.kept.take() else {
+        let Some(own) = &mut pass.kept else {
             return;
         };
         let (words, layout) = (&self.words, &self.plan.layout);
         let seat = &mut pass.seat;
         own.rest(words, self.turns, layout, seat, pass.number, &pass.share);
-        pass.kept = Some(own);
     }
 
     /// It ends to rest.
@@ -63,18 +62,16 @@ impl<K: WordKey, V: WordValue, B: FixedBalance> Forest<Dict<K, V, Lasts<B>>> {
             pass.old pass.new }
         ensures waits { IfSome result (λ other. (other.0 < pass.new.layout.passes) × (other.0 ≢ pass.new.number)) }
     {
-        let Some(mut kept) = pass.kept.take() else {
+        let Some(own) = &mut pass.kept else {
             return None;
         };
-        let waits_for = kept.end_rest(
+        own.end_rest(
             &self.words,
             self.turns,
             &self.plan.layout,
             &mut pass.seat,
             pass.number,
             &mut pass.share,
-        );
-        pass.kept = Some(kept);
-        waits_for
+        )
     }
 }

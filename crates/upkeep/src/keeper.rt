@@ -315,7 +315,10 @@ impl Keeper {
         );
     }
 
-    /// A call was lost: its nodes from this one on, up to that one, were never in the tree.
+    /// A call was lost: its nodes from this one on, up to that one, were never in the tree. Out of
+    /// line, since few calls are.
+    #[cold]
+    #[inline(never)]
     pub fn lose(&mut self, from: NodeNo, to: NodeNo)
         ensures { (t : Lasting) (p : SeatedPass) → AreUnborn p from.0 to.0
             → IsKeeper t p self.old → IsKeeper t p self.new }

@@ -1,4 +1,4 @@
-use Rattle.std.proofs.Common.{◌≡◌, ◌∙◌, Bool, Option, None, Some, true, false, is_some, ap, refl, rules, subst, sym}
+use Rattle.std.proofs.Common.{◌≡◌, ◌∙◌, Bool, Option, None, Some, true, false, is_some, ap, refl, subst, sym}
 use Rattle.histories.specs.Common.{Extends, Layout}
 use Rattle.ordered_map.specs.declared.reply.Reply.TheVariants.{Value}
 use Rattle.planting.specs.Plantings.{PlantingView}
@@ -102,7 +102,7 @@ note_leaf-requires-clause-pass g c =
     let of = rw (← c.pass.view_is, ← c.self.view_is) at c.requires.pass in (
       seated_in q,
       at_lasting c.self.inside.words c.self.inside.plan.layout (layout_in p) p.number.0 q.seat (c.self.invariant.6 refl).0 (c.to_goal.ensures.table.0 ∙ of.0) of.1 y.seat.alone y.is_pass,
-      set_now y (dict_mode (layout_in p).mode (g.B.Balance.trie g.B.FixedBalance.the) x.is_mode) c.in-Some.kept (subst (λ kept. KeepsRight kept (seated_in q)) (sym c.take.ensures.value ∙ c.in-Some.is) (keeps g d)),
+      set_now y (dict_mode (layout_in p).mode (g.B.Balance.trie g.B.FixedBalance.the) x.is_mode) c.in-Some.own (subst (λ kept. KeepsRight kept (seated_in q)) c.in-Some.is (keeps g d)),
       (λ h run. (dict_mode (layout_in p).mode (g.B.Balance.trie g.B.FixedBalance.the) x.is_mode, typed_run (IsWordOf g.K.WordKey.is_valid g.K.WordKey.word_of) (IsWordOf g.V.WordValue.is_valid g.V.WordValue.word_of) (layout_in p) h run)),
       run_at p.seat.me.0.passes,
       subst (λ (k : PlantingView × PassMemory). Extends (run_at p.seat.me.0.passes) (history_of k.0 k.1.rested)) (sym c.to_goal.ensures.table.2) x.seat.since,
@@ -115,7 +115,7 @@ note_leaf-requires-clause-pass g c =
     none_if (Some x) b e f = absurd (let z : true ≡ false = sym e ∙ f in cc)
 
 pub invariant_of-pass-in_default : goal.invariant_of-pass-in_default
-invariant_of-pass-in_default g c = let d = (goal.at.invariant_of-pass-in_default g c).After-value_of in (is_pass g d, λ lasts. search (rules, c.take.ensures))
+invariant_of-pass-in_default g c = let d = (goal.at.invariant_of-pass-in_default g c).After-value_of in (is_pass g d, λ lasts. keeps g d)
 
 -- as it was noted that the leaf is out
 pub invariant_of-pass-2 : goal.invariant_of-pass-2

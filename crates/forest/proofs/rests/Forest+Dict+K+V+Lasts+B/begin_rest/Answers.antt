@@ -24,7 +24,7 @@ rest-requires-clause-pass g c =
       seated_in p,
       at_lasting c.self.inside.words c.self.inside.plan.layout (layout_in p) p.number.0 p.seat (c.self.invariant.6 refl).0 of.0 of.1 x.seat.alone x.is_pass,
       refl,
-      set_now x (dict_mode (layout_in p).mode (g.B.Balance.trie g.B.FixedBalance.the) x.is_mode) c.in-Some.own (subst (λ kept. KeepsRight kept (seated_in p)) (sym c.take.ensures.value ∙ c.in-Some.is) (c.pass.invariant.1 refl)),
+      set_now x (dict_mode (layout_in p).mode (g.B.Balance.trie g.B.FixedBalance.the) x.is_mode) c.in-Some.own (subst (λ kept. KeepsRight kept (seated_in p)) c.in-Some.is (c.pass.invariant.1 refl)),
       λ h run. (dict_mode (layout_in p).mode (g.B.Balance.trie g.B.FixedBalance.the) x.is_mode, typed_run (IsWordOf g.K.WordKey.is_valid g.K.WordKey.word_of) (IsWordOf g.V.WordValue.is_valid g.V.WordValue.word_of) (layout_in p) h run),
     )
 

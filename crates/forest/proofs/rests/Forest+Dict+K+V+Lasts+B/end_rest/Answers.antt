@@ -14,18 +14,18 @@ use Rattle.forest.proofs.rests.Forest+Dict+K+V+Lasts+B.end_rest.Goals as goal
 pub returns-in_default-clause-rested : goal.returns-in_default-clause-rested
 returns-in_default-clause-rested g c = rw (← c.pass.view_is) (rested_nothing c.pass.invariant.0)
 
-pub end_rest-waits_for-requires-clause-turns : goal.end_rest-waits_for-requires-clause-turns
-end_rest-waits_for-requires-clause-turns g c = c.self.invariant.5
+pub end_rest-requires-clause-turns : goal.end_rest-requires-clause-turns
+end_rest-requires-clause-turns g c = c.self.invariant.5
 
-pub end_rest-waits_for-requires-clause-pass : goal.end_rest-waits_for-requires-clause-pass
-end_rest-waits_for-requires-clause-pass g c =
+pub end_rest-requires-clause-pass : goal.end_rest-requires-clause-pass
+end_rest-requires-clause-pass g c =
     let p = c.pass.inside in
     let x = c.pass.invariant.0 in
     let of = rw (← c.pass.view_is, ← c.self.view_is) at c.requires.pass in (
       seated_in p,
       at_lasting c.self.inside.words c.self.inside.plan.layout (layout_in p) p.number.0 p.seat (c.self.invariant.6 refl).0 of.0 of.1 x.seat.alone x.is_pass,
       refl,
-      set_now x (dict_mode (layout_in p).mode (g.B.Balance.trie g.B.FixedBalance.the) x.is_mode) c.in-Some.kept (subst (λ kept. KeepsRight kept (seated_in p)) (sym c.take.ensures.value ∙ c.in-Some.is) (c.pass.invariant.1 refl)),
+      set_now x (dict_mode (layout_in p).mode (g.B.Balance.trie g.B.FixedBalance.the) x.is_mode) c.in-Some.own (subst (λ kept. KeepsRight kept (seated_in p)) c.in-Some.is (c.pass.invariant.1 refl)),
       λ h run. (dict_mode (layout_in p).mode (g.B.Balance.trie g.B.FixedBalance.the) x.is_mode, typed_run (IsWordOf g.K.WordKey.is_valid g.K.WordKey.word_of) (IsWordOf g.V.WordValue.is_valid g.V.WordValue.word_of) (layout_in p) h run),
     )
 
@@ -35,10 +35,10 @@ invariant_of-pass-2 g c =
     let x = c.pass.invariant.0 in
     let of = rw (← c.pass.view_is, ← c.self.view_is) at c.requires.pass in
     let many = subst (λ (l : Layout). ¬ HasFewNames l) (sym of.1) (c.self.invariant.6 refl).1 in
-    let kept = c.end_rest-waits_for.new.self in
+    let kept = c.end_rest.new.self in
     let t = in_turns kept.layout kept.turns in (
-      rest_pass x many t c.end_rest-waits_for.new.left kept.keeper c.end_rest-waits_for.new.seat c.end_rest-waits_for.ensures.table c.end_rest-waits_for.ensures.rests,
-      λ lasts. rest_keeps x many t c.end_rest-waits_for.new.left kept.keeper c.end_rest-waits_for.new.seat c.end_rest-waits_for.ensures.table c.end_rest-waits_for.ensures.rests,
+      rest_pass x many t c.end_rest.new.left kept.keeper c.end_rest.new.seat c.end_rest.ensures.table c.end_rest.ensures.rests,
+      λ lasts. rest_keeps x many t c.end_rest.new.left kept.keeper c.end_rest.new.seat c.end_rest.ensures.table c.end_rest.ensures.rests,
     )
 
 pub returns-clause-rested : goal.returns-clause-rested
@@ -47,8 +47,8 @@ returns-clause-rested g c =
     let x = c.pass.invariant.0 in
     let of = rw (← c.pass.view_is, ← c.self.view_is) at c.requires.pass in
     let many = subst (λ (l : Layout). ¬ HasFewNames l) (sym of.1) (c.self.invariant.6 refl).1 in
-    let kept = c.end_rest-waits_for.new.self in
-    rw (← c.pass.view_is) (rest_says x many (in_turns kept.layout kept.turns) c.end_rest-waits_for.new.left kept.keeper c.end_rest-waits_for.new.seat c.end_rest-waits_for.ensures.table c.end_rest-waits_for.ensures.rests)
+    let kept = c.end_rest.new.self in
+    rw (← c.pass.view_is) (rest_says x many (in_turns kept.layout kept.turns) c.end_rest.new.left kept.keeper c.end_rest.new.seat c.end_rest.ensures.table c.end_rest.ensures.rests)
 
 pub returns-clause-waits : goal.returns-clause-waits
 returns-clause-waits g c =
@@ -56,4 +56,4 @@ returns-clause-waits g c =
     let of = rw (← c.pass.view_is, ← c.self.view_is) at c.requires.pass in
     let key = c.self.inside.words.table.shared.key in
     let last = (c.self.invariant.6 refl).0 in
-    subst (λ n. IfSome c.end_rest-waits_for.result (λ other. (other.0 < n) × (other.0 ≢ p.number.0))) (sym (ap (λ (l : Layout). l.passes) of.1 ∙ passes_of_table key ∙ ap (λ (l : Layout). l.passes) last.layout)) c.end_rest-waits_for.ensures.waits
+    subst (λ n. IfSome c.end_rest.result (λ other. (other.0 < n) × (other.0 ≢ p.number.0))) (sym (ap (λ (l : Layout). l.passes) of.1 ∙ passes_of_table key ∙ ap (λ (l : Layout). l.passes) last.layout)) c.end_rest.ensures.waits
