@@ -43,9 +43,9 @@ typedef struct regnubas_limits {
     uint32_t scx;   /* 0 to 32768: a change takes 1 in a try */
     uint32_t tries; /* 1 to 1000: after so many lost tries a change, a successor, a predecessor or a
                      * range answers CONTENDED. A try is lost where a change by another pass was in
-                     * the way, and may have taken as much as one that is done. It has no effect on
-                     * a get, which reads nothing twice, nor where the dictionary lasts: there a
-                     * call makes one try. But it has to be in its range in each. */
+                     * the way, and may have taken as much as one that is done. The number has no
+                     * effect on a get, which reads nothing twice, nor where the dictionary lasts,
+                     * which also asks for one in this range: there a call makes one try. */
 } regnubas_limits;
 
 /* A number of 128 bits: low + 2^64 * high. */

@@ -21,9 +21,9 @@ pub struct Limits {
     pub scx: u32,
     /// 1 to 1,000: after so many lost tries a change, a `successor`, a `predecessor` or a range is
     /// [`Contended`](crate::Fault::Contended). A try is lost where a change by another pass was in
-    /// the way, and may have taken as much as one that is done. It has no effect on `get` and
-    /// `contains_key`, which read nothing twice, nor where the dictionary lasts: there a call makes
-    /// one try. But it has to be in its range in each.
+    /// the way, and may have taken as much as one that is done. The number has no effect on `get`
+    /// and `contains_key`, which read nothing twice, nor where the dictionary lasts, which also
+    /// asks for one in this range: there a call makes one try.
     pub tries: u32,
 }
 
