@@ -36,12 +36,16 @@ typedef struct regnubas_pass {
     uint64_t unused[7];
 } regnubas_pass;
 
-/* What each pass may take in the life of the dictionary; in one that lasts, at a time. */
+/* What each pass may take in the life of the dictionary; have at a time, in one that lasts. */
 typedef struct regnubas_limits {
     uint32_t nodes; /* 0 to 32768: a change takes 1 in a try; the first key, or a new one in a
                      * full leaf, 3; in a trie a new one far from all others, 2 */
     uint32_t scx;   /* 0 to 32768: a change takes 1 in a try */
-    uint32_t tries; /* 1 to 1000: of a call */
+    uint32_t tries; /* 1 to 1000: after so many lost tries a change, a successor, a predecessor or a
+                     * range answers CONTENDED. A try is lost where a change by another pass was in
+                     * the way, and may have taken as much as one that is done. The number has no
+                     * effect on a get, which reads nothing twice, nor where the dictionary lasts,
+                     * which also asks for one in this range: there a call makes one try. */
 } regnubas_limits;
 
 /* A number of 128 bits: low + 2^64 * high. */
@@ -74,8 +78,8 @@ enum {
     REGNUBAS_NONE = 0,      /* done: there is no value or pair, or was none */
     REGNUBAS_SOME = 1,      /* done: there is a value, a pair, a number of pairs */
     REGNUBAS_CONTENDED = 2, /* not done: other passes were in the way in each try; ask again */
-    REGNUBAS_FULL = 3,      /* not done: too little is left of the pass's share, which grows only where
-                             * the dictionary lasts, as passes rest */
+    REGNUBAS_FULL = 3,      /* not done: too little is left of the pass's share. If the dictionary
+                             * lasts, rest and ask again; if not, ask by another pass, or renew */
     REGNUBAS_NO_MEMORY = 4, /* not done: an allocation was refused */
     REGNUBAS_LIMITS = 5,    /* not made: a number is out of its range */
     REGNUBAS_NO_PASS = 6,   /* not done: there is no pass here */
@@ -93,7 +97,58 @@ uint32_t regnubas_make(regnubas_limits each, regnubas_pass *passes, size_t count
 uint32_t regnubas_make_trie(regnubas_limits each, regnubas_pass *passes, size_t count);
 
 /* The same, a tree or a trie, but the dictionary lasts: what its passes have used up comes back to
- * them as they rest, so `each` is of what is in use at a time. A call makes one try. */
+ * them as they rest.
+ *
+ * Its limits have the same ranges: 1 to 32 passes; 0 to 32768 nodes, and as many SCX-records, for
+ * each; 1 to 1000 tries, though a call makes one. They are of what is in use at a time: the nodes
+ * of the map that the pass has made, the SCX-records of its changes that were the last at a node of
+ * the map, and what has not come back yet, which is what it takes in four rests or more. So take
+ * ten times a pass's part of the pairs, and no less than its calls take in four rests. With fewer
+ * than three nodes no first key goes in.
+ *
+ * CONTENDED: ask again at once. FULL: rest, and ask again. What is dead by then comes back in some
+ * four rests, if these wait for nobody; in a trie, what pops leave may take one more for each 64
+ * nodes of the share. regnubas_rest says for which pass it waits: until that one rests, goes away
+ * or leaves, nothing comes back. A call that stays FULL while rests wait for nobody needs a larger
+ * share. So each thread may change the map, with <sched.h>, by
+ *
+ *     // Sets a key, and asks as often as it takes. FULL: the share is too small.
+ *     uint32_t set(regnubas_pass *pass, uint64_t key, regnubas_value value) {
+ *         uint32_t other;
+ *         for (int alone = 0;;) {
+ *             uint32_t status = regnubas_insert(pass, key, value).status;
+ *             if (status == REGNUBAS_CONTENDED) continue;
+ *             if (status != REGNUBAS_FULL || alone == 8) return status; // a trie: 8 + nodes / 64
+ *             if (regnubas_rest(pass, &other) == REGNUBAS_SOME) {
+ *                 alone = 0;
+ *                 sched_yield(); // pass number `other` is to go on
+ *             } else {
+ *                 alone++;
+ *             }
+ *         }
+ *     }
+ *
+ *     // Changes a key a million times, and rests after each ten.
+ *     int work(regnubas_pass *pass, uint64_t key) {
+ *         uint32_t other;
+ *         for (uint64_t i = 1; i <= 1000000; i++) {
+ *             if (set(pass, key, (regnubas_value){i, 0}) > REGNUBAS_SOME) return 1;
+ *             if (i % 10 == 0) regnubas_rest(pass, &other);
+ *         }
+ *         regnubas_away(pass); // or leave: a pass that does not rest holds up all others
+ *         return 0;
+ *     }
+ *
+ * It may have more pairs than there are nodes, since a leaf is one node and has up to four pairs:
+ * room for 2 * passes * nodes of them, of 24 bytes each, is room for all at its end.
+ *
+ * The table takes, with n = 3 + passes * nodes and s = 1 + passes * scx, and with A and B, the
+ * least powers of two above these, 8 * max(18 * A, 18 * n + 14 * B) bytes, or up to 2 KB more; in a
+ * trie 24 for 18. That is 386 MB at most, in a trie 436 MB. While it is made it takes up to three
+ * times that. Besides, a pass keeps a number and a byte for each of its nodes and SCX-records. Its
+ * end takes 8 * (18 * n + 14 * s) bytes, and room for the pairs.
+ *
+ * A pass can go round its share 2^28 times at least; then it stays FULL for ever. */
 uint32_t regnubas_make_lasting(regnubas_limits each, regnubas_pass *passes, size_t count);
 uint32_t regnubas_make_lasting_trie(regnubas_limits each, regnubas_pass *passes, size_t count);
 
@@ -147,10 +202,11 @@ uint32_t regnubas_predecessor(regnubas_pass *pass, uint64_t key, regnubas_pair *
 regnubas_count regnubas_range(regnubas_pass *pass, uint64_t low, uint64_t high,
                               regnubas_pair *pairs, size_t count);
 
-/* The pass of a dictionary that lasts rests, between two calls, ten or a hundred of them. SOME: it
- * waits for another, whose place among the passes that were made is at `other`; NONE: for nobody. A
- * pass that neither rests nor is away holds up all others. It takes no memory. A pass of a dictionary
- * that does not last is as it was: NONE. */
+/* The pass of a dictionary that lasts rests, between two calls, ten or a hundred of them, and after
+ * FULL. SOME: it waits for another, whose place among the passes that were made, from 0 on, is at
+ * `other`; NONE: for nobody. Either way the pass may go on. A pass that neither rests nor is away
+ * holds up all others. It takes no memory. A pass of a dictionary that does not last is as it was:
+ * NONE. */
 uint32_t regnubas_rest(regnubas_pass *pass, uint32_t *other);
 
 /* The pass of a dictionary that lasts goes away, before a while without calls: no other waits for it,
@@ -162,7 +218,8 @@ uint32_t regnubas_away(regnubas_pass *pass);
  * done. */
 uint32_t regnubas_back(regnubas_pass *pass);
 
-/* What is left of the pass's share; zeros where there is no pass, or it is away. */
+/* What is left of the pass's share, where the dictionary lasts until a rest adds to it; zeros where
+ * there is no pass, or it is away. */
 regnubas_share regnubas_left(regnubas_pass *pass);
 
 /* Gives the pass up; where its dictionary lasts it goes away by that. With the last pass the
@@ -170,10 +227,11 @@ regnubas_share regnubas_left(regnubas_pass *pass);
 void regnubas_leave(regnubas_pass *pass);
 
 /* Ends the dictionary, once all other passes have left, and writes its first pairs, `count` at the
- * most; room for passes * nodes and the pairs that it began with is room for all, and where it lasts
- * for twice as many as nodes, since a leaf has up to four. What other passes had put in before they
- * left is among them, where no later call has changed it. SOME with the number of all its pairs;
- * SHARED: the pass is as it was; NO_MEMORY: the dictionary is gone. */
+ * most; room for passes * nodes and the pairs that it began with is room for all, and where it
+ * lasts room for 2 * passes * nodes. What other passes had put in before they left is among them,
+ * where no later call has changed it. SOME with the number of all its pairs: where these are more
+ * than `count`, the others are lost. SHARED: the pass is as it was; NO_MEMORY: the dictionary is
+ * gone. */
 regnubas_count regnubas_close(regnubas_pass *pass, regnubas_pair *pairs, size_t count);
 
 /* Ends a dictionary by all its passes at once, in any order, and writes its first pairs, `count` at

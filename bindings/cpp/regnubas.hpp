@@ -46,7 +46,9 @@ using pair = std::pair<key, value>;
 // Why a call is refused.
 enum class status : std::uint32_t {
     contended = REGNUBAS_CONTENDED, // other passes were in the way in each try: ask again
-    full = REGNUBAS_FULL,           // too little is left of the pass's share
+    full = REGNUBAS_FULL,           // too little is left of the pass's share: if the dictionary
+                                    // lasts, rest and ask again, as at `again`; if not, ask by
+                                    // another pass, or renew
     no_memory = REGNUBAS_NO_MEMORY, // an allocation was refused
     limits = REGNUBAS_LIMITS,       // a number is out of its range
     no_pass = REGNUBAS_NO_PASS,     // the pass is empty, was moved from, has left, was closed or is away
@@ -58,7 +60,8 @@ enum class status : std::uint32_t {
 inline const char *text_of(status why) {
     switch (why) {
     case status::contended: return "contended";
-    case status::full: return "full";
+    case status::full:
+        return "full: rest and ask again if the dictionary lasts; else use another pass, or renew";
     case status::no_memory: return "no memory";
     case status::limits: return "limits out of range";
     case status::no_pass: return "no pass";
@@ -89,7 +92,8 @@ private:
 
 // Limits for this many changes by each pass, of which `new_keys` give a value to a key that has
 // none. What they take is doubled, up to 32,768, since a try that is lost to another thread takes
-// as much. If they take more than 32,768 by themselves, `make` refuses them.
+// as much. If they take more than 32,768 by themselves, `make` refuses them. A call has 100 tries.
+// For a dictionary that lasts write limits yourself, as `make_lasting` says.
 inline regnubas_limits limits_for(std::uint32_t changes, std::uint32_t new_keys) {
     const auto with_lost_tries = [](std::uint64_t taken) {
         const std::uint64_t all = std::max(taken, std::min<std::uint64_t>(2 * taken, 32768));
@@ -122,7 +126,38 @@ private:
     status why_ = status::no_pass;
 };
 
-// Asks until other passes are not in the way: `again([&] { return pass.try_insert(5, 50); })`.
+// Asks until other passes are not in the way: `again([&] { return pass.try_insert(5, 50); })`. It
+// asks again after `contended` alone, at once, and never rests: `full` is answered, as is all else.
+// So where the dictionary lasts, each thread may change the map by
+//
+//     // Sets a key, and asks as often as it takes. Throws `full` if the share is too small.
+//     void set(regnubas::pass &own, regnubas::key k, regnubas::value v) {
+//         for (int alone = 0;;) {
+//             auto told = regnubas::again([&] { return own.try_insert(k, v); });
+//             const bool full = !told && told.why() == regnubas::status::full;
+//             if (!full || alone == 8) { // in a trie 8 + nodes / 64
+//                 std::move(told).get();
+//                 return;
+//             }
+//             if (own.rest()) {
+//                 alone = 0;
+//                 std::this_thread::yield(); // another pass is to go on
+//             } else {
+//                 alone++;
+//             }
+//         }
+//     }
+//
+//     // Changes a key a million times, and rests after each ten. The pass leaves at the end.
+//     void work(regnubas::pass own, regnubas::key k) {
+//         for (std::uint64_t i = 1; i <= 1000000; i++) {
+//             set(own, k, i);
+//             if (i % 10 == 0) own.rest();
+//         }
+//     }
+//
+//     auto passes = regnubas::pass::make_lasting(2, {64, 64, 1}); // nodes, SCX-records, tries
+//     std::thread one(work, std::move(passes[0]), 5), other(work, std::move(passes[1]), 6);
 template <typename Call> auto again(Call call) -> decltype(call()) {
     for (;;) {
         auto told = call();
@@ -149,7 +184,11 @@ public:
     }
     ~pass() { leave(); }
 
-    // A dictionary with so many passes, 1 to 32, each of which may take what `each` says.
+    // A dictionary with so many passes, 1 to 32, each of which may take what `each` says: 0 to
+    // 32,768 nodes and as many SCX-records. After so many lost tries, 1 to 1,000, a change or an
+    // ordered read is `contended`. A try is lost where a change by another pass was in the way, and
+    // may have taken as much as one that is done. `tries` has no effect on `get`, which reads
+    // nothing twice, nor where the dictionary lasts.
     static result<std::vector<pass>> try_make(std::size_t count, regnubas_limits each, shape is = shape::tree) {
         return made(count, count * each.nodes, is, [=](regnubas_pass *raw) {
             return (is == shape::trie ? regnubas_make_trie : regnubas_make)(each, raw, count);
@@ -159,8 +198,30 @@ public:
         return try_make(count, each, is).get();
     }
 
-    // One that lasts: what its passes have used up comes back to them as they rest, so `each` is of
-    // what is in use at a time. Its leaves may all have four pairs: up to two for each node.
+    // One that lasts: what its passes have used up comes back to them as they rest.
+    //
+    // `each` has the same ranges, but is of what is in use at a time: the nodes of the map that the
+    // pass has made, the SCX-records of its changes that were the last at a node of the map, and
+    // what has not come back yet, which is what it takes in four rests or more. So take ten times a
+    // pass's part of the pairs, and no less than its calls take in four rests. With fewer than
+    // three nodes no first key goes in. A call makes one try, whatever `tries` says.
+    //
+    // After `contended` ask again at once; after `full` rest, and ask again, as the loop at `again`
+    // does. What is dead by then comes back in some four rests, if these wait for nobody; in a
+    // trie, what pops leave may take one more for each 64 nodes of the share. `rest` says for which
+    // pass it waits: until that one rests, goes away or leaves, nothing comes back. A call that
+    // stays `full` while rests wait for nobody needs a larger share.
+    //
+    // It may have more pairs than there are nodes, since a leaf is one node and has up to four
+    // pairs: `close` takes room for 2 * count * nodes pairs, 48 bytes each.
+    //
+    // The table takes, with n = 3 + count * nodes and s = 1 + count * scx, and with A and B, the
+    // least powers of two above these, 8 * max(18 * A, 18 * n + 14 * B) bytes, or up to 2 KB more;
+    // in a trie 24 for 18. That is 386 MB at most, in a trie 436 MB. While it is made it takes up
+    // to three times that. Besides, a pass keeps a number and a byte for each of its nodes and
+    // SCX-records. `close` takes 8 * (18 * n + 14 * s) bytes more.
+    //
+    // A pass can go round its share 2^28 times at least; then it stays `full` for ever.
     static result<std::vector<pass>> try_make_lasting(std::size_t count, regnubas_limits each,
                                                       shape is = shape::tree) {
         return made(count, 2 * count * each.nodes, is, [=](regnubas_pass *raw) {
@@ -266,8 +327,10 @@ public:
     // All pairs from `low` to `high`, both with them, for a range-for: each 64 of one moment.
     inline between items(key low = 0, key high = std::numeric_limits<key>::max());
 
-    // Rests between two calls, where the dictionary lasts; the place of the pass that it waits for
-    // among those that were made.
+    // Rests between two calls, ten or a hundred of them, and after `full`, where the dictionary
+    // lasts; the place of the pass that it waits for among those that were made, from 0 on, or
+    // nothing. Either way the pass may go on. One that neither rests nor is away holds up all
+    // others.
     result<std::optional<std::uint32_t>> try_rest() {
         std::uint32_t other = 0;
         const std::uint32_t told = regnubas_rest(&raw_, &other);
@@ -282,7 +345,8 @@ public:
     bool away() noexcept { return regnubas_away(&raw_) == REGNUBAS_NONE; }
     bool back() noexcept { return regnubas_back(&raw_) == REGNUBAS_NONE; }
 
-    // What is left of the share; zeros where there is no pass, or it is away.
+    // What is left of the share, where the dictionary lasts until a rest adds to it; zeros where
+    // there is no pass, or it is away.
     regnubas_share left() { return regnubas_left(&raw_); }
 
     // Gives the pass up. With the last pass the dictionary is freed.

@@ -13,7 +13,8 @@ process with threads.
 
 A call that other passes interfered with in each try raises `Contended` and has changed nothing.
 What every mapping has (`m[5] = 50`, `del m[5]`, `pop`, ..), `replace`, and what goes through many
-pairs call the library again by themselves; for other calls there is `again(m.insert, 5, 50)`.
+pairs call the library again by themselves; for other calls there is `again(m.insert, 5, 50)`. None
+of these rests where the share is `Full`: `again` shows how to, where the dictionary lasts.
 
 The library is the file that REGNUBAS_LIBRARY names, or the one that came with the wheel, or
 libregnubas.so.0 as the loader finds it."""

@@ -11,7 +11,8 @@ class Contended(Fault):
 
 
 class Full(Fault):
-    """Too little is left of the pass's share, which never grows."""
+    """Too little is left of the pass's share: rest and call again if the dictionary lasts; else use
+    another pass, or renew."""
 
 
 class NoMemory(Fault, MemoryError):
@@ -62,5 +63,5 @@ _FAULTS = {
 def is_some(status: int) -> bool:
     """Whether a call of this status has found something; raises its fault."""
     if status in _FAULTS:
-        raise _FAULTS[status](_FAULTS[status].__doc__)
+        raise _FAULTS[status](" ".join((_FAULTS[status].__doc__ or "").split()))
     return status == _SOME

@@ -21,10 +21,43 @@ T = TypeVar("T")
 
 
 def again(call: Callable[..., T], *arguments: Any) -> T:
-    """Calls until other passes do not interfere.
+    """Calls until other passes do not interfere: after `Contended` alone, and at once.
 
     >>> [m] = make(threads=1, changes=10)
     >>> again(m.insert, 5, 50)
+
+    It never rests: `Full` is raised, as is all else. So where the dictionary lasts, each thread may
+    rest after each ten calls, and where one is full, rest and call again:
+
+    >>> import threading, time
+    >>> from regnubas import Full
+    >>> def set_(m, key, value):
+    ...     '''Sets a key, and asks as often as it takes. `Full`: the share is too small.'''
+    ...     alone = 0
+    ...     while True:
+    ...         try:
+    ...             return again(m.insert, key, value)
+    ...         except Full:
+    ...             if alone == 8: # in a trie 8 + nodes // 64
+    ...                 raise
+    ...         if m.rest() is None:
+    ...             alone += 1
+    ...         else:
+    ...             alone = 0
+    ...             time.sleep(0) # another pass is to go on
+    >>> def work(m, key):
+    ...     with m: # at its end the pass leaves, so that no other waits for it
+    ...         for number in range(1, 1001):
+    ...             set_(m, key, number)
+    ...             if number % 10 == 0:
+    ...                 m.rest()
+    >>> own, one, other = make(threads=3, nodes=64, scx=64, lasting=True)
+    >>> own.away() # this thread only waits
+    >>> threads = [threading.Thread(target=work, args=two) for two in ((one, 5), (other, 6))]
+    >>> for thread in threads: thread.start()
+    >>> for thread in threads: thread.join()
+    >>> own.back(); own.close()
+    [(5, 1000), (6, 1000)]
     """
     while True:
         try:
@@ -160,9 +193,10 @@ class Pass(MutableMapping[int, int]):
         return self._listed(library.regnubas_range, min(most, _CHUNK), word(low), word(high))
 
     def rest(self) -> int | None:
-        """Rests, between two calls: the place of the pass that it waits for, among those that were
-        made, or None. A pass of a dictionary that lasts that neither rests nor is away holds up all
-        others; one of another dictionary waits for nobody.
+        """Rests, between two calls, ten or a hundred of them, and after `Full`: the place of the
+        pass that it waits for, among those that were made, from 0 on, or None. Either way it may go
+        on. A pass of a dictionary that lasts that neither rests nor is away holds up all others;
+        one of another dictionary waits for nobody.
 
         >>> one, other = make(threads=2, nodes=64, scx=64, lasting=True)
         >>> one.rest() # its whole share is left
@@ -189,7 +223,8 @@ class Pass(MutableMapping[int, int]):
         is_some(self._call(library.regnubas_back))
 
     def left(self) -> tuple[int, int]:
-        """How many nodes and SCX-records are left of the pass's share.
+        """How many nodes and SCX-records are left of the pass's share; where the dictionary lasts,
+        until a rest adds to it.
 
         >>> [m] = make(threads=1, nodes=300, scx=100)
         >>> m[5] = 50
@@ -457,8 +492,13 @@ def make(
     >>> m.left()
     (240, 200)
 
-    Or give the `nodes` and SCX-records (`scx`) of each pass yourself. A call tries `tries` times, 1
-    to 1,000, before it is `Contended`.
+    Or give the `nodes` and SCX-records (`scx`) of each pass yourself, 0 to 32,768 each.
+
+    After `tries` lost tries, 1 to 1,000, a change, a `successor`, a `predecessor` or a `range` is
+    `Contended`. A try is lost where a change by another pass was in the way, and may have taken as
+    much as one that is done. The number has no effect on `get`, `m[key]` and `key in m`, which read
+    nothing twice, nor where the dictionary lasts, which also asks for one in this range: there a
+    call makes one try.
 
     A `trie` stays low also where keys come in order.
 
@@ -467,13 +507,35 @@ def make(
     >>> m.pop_first()
     (0, 50)
 
-    Where it is `lasting`, what its passes have used up comes back to them as they `rest`: `nodes` and
-    `scx` are of what is in use at a time, and a call makes one try.
+    Where it is `lasting`, what its passes have used up comes back to them as they `rest`.
 
     >>> [m] = make(threads=1, nodes=64, scx=64, lasting=True)
     >>> for time in range(1000): m[5] = time; m.rest()
     >>> m[5]
     999
+
+    Its limits have the same ranges, but are of what is in use at a time: the nodes of the map that
+    the pass has made, the SCX-records of its changes that were the last at a node of the map, and
+    what has not come back yet, which is what it takes in four rests or more. So give `nodes` and
+    `scx`, not `changes`: ten times a pass's part of the pairs, and no less than its calls take in
+    four rests. With fewer than three nodes no first key goes in.
+
+    After `Contended` call again at once; after `Full` rest, and call again: the example at `again`
+    does both. What is dead by then comes back in some four rests, if these wait for nobody; in a
+    trie, what pops leave may take one more for each 64 nodes of the share. `rest` says for which
+    pass it waits: until that one rests, goes away or leaves, nothing comes back. A call that stays
+    `Full` while rests wait for nobody needs a larger share.
+
+    It may have more pairs than there are nodes, since a leaf is one node and has up to four pairs:
+    `close` and `renew` take room for 2 * threads * nodes pairs, 24 bytes each, and for their lists.
+
+    The table takes, with n = 3 + threads * nodes and s = 1 + threads * scx, and with A and B, the
+    least powers of two above these, 8 * max(18 * A, 18 * n + 14 * B) bytes, or up to 2 KB more; in
+    a trie 24 for 18. That is 386 MB at most, in a trie 436 MB. While it is made it takes up to
+    three times that. Besides, a pass keeps a number and a byte for each of its nodes and
+    SCX-records. `close` takes 8 * (18 * n + 14 * s) bytes more.
+
+    A pass can go round its share 2**28 times at least; then it stays `Full` for ever.
     """
     each = _limits(nodes, scx, tries, changes, new_keys)
     if lasting:

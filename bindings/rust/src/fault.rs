@@ -13,14 +13,16 @@ use std::fmt;
 /// passes[0].insert(5, 50)?;
 /// let fault = passes[0].insert(5, 51).unwrap_err();
 /// assert_eq!(fault, Fault::Full);
-/// assert_eq!(fault.to_string(), "full: too little is left of the pass's share");
+/// assert!(fault.to_string().starts_with("full: too little is left of the pass's share"));
 /// # Ok::<(), Fault>(())
 /// ```
 #[derive(Clone, Copy, Debug, PartialEq, Eq)]
 pub enum Fault {
     /// Other passes interfered in each try: call again, by yourself or by [`again`](crate::again).
     Contended,
-    /// Too little is left of the pass's share, which never grows.
+    /// Too little is left of the pass's share. If the dictionary lasts, [`rest`](Pass::rest) and
+    /// call again, as the example at [`again`](crate::again) does; if not, call by another pass, or
+    /// [`renew`](Pass::renew).
     Full,
     /// An allocation failed.
     NoMemory,
@@ -36,7 +38,10 @@ impl fmt::Display for Fault {
     fn fmt(&self, f: &mut fmt::Formatter<'_>) -> fmt::Result {
         f.write_str(match self {
             Fault::Contended => "contended: other passes interfered",
-            Fault::Full => "full: too little is left of the pass's share",
+            Fault::Full => {
+                "full: too little is left of the pass's share: rest and call again if the \
+                 dictionary lasts; else use another pass, or renew"
+            }
             Fault::NoMemory => "no memory",
             Fault::Limits => "bad limits",
             Fault::Order => "pairs out of order",

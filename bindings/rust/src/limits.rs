@@ -1,7 +1,8 @@
 //! What a pass may take.
 
-/// What each pass may take in the life of the dictionary, of which nothing is ever given back; in one
-/// that lasts, at a time.
+/// What each pass may take in the life of the dictionary, of which nothing is ever given back; in
+/// one that lasts, what it may have in use at a time, as [`make_lasting`](crate::make_lasting)
+/// says.
 ///
 /// ```
 /// use regnubas::{make, Limits, Share};
@@ -18,7 +19,11 @@ pub struct Limits {
     pub nodes: u32,
     /// 0 to 32,768 SCX-records. A change takes one in a try.
     pub scx: u32,
-    /// 1 to 1,000: how often a call tries before it is [`Contended`](crate::Fault::Contended).
+    /// 1 to 1,000: after so many lost tries a change, a `successor`, a `predecessor` or a range is
+    /// [`Contended`](crate::Fault::Contended). A try is lost where a change by another pass was in
+    /// the way, and may have taken as much as one that is done. The number has no effect on `get`
+    /// and `contains_key`, which read nothing twice, nor where the dictionary lasts, which also
+    /// asks for one in this range: there a call makes one try.
     pub tries: u32,
 }
 
@@ -33,7 +38,8 @@ impl Limits {
     /// Limits for this many changes by each pass, of which `new_keys` give a value to a key that
     /// has none. What they take is doubled, up to [`MOST`](Limits::MOST), since a try that is lost
     /// to another thread takes as much. If they take more than `MOST` by themselves,
-    /// [`make`](crate::make) returns [`Fault::Limits`](crate::Fault::Limits).
+    /// [`make`](crate::make) returns [`Fault::Limits`](crate::Fault::Limits). A call has 100 tries.
+    /// For a dictionary that lasts write limits yourself.
     ///
     /// ```
     /// use regnubas::Limits;
@@ -52,7 +58,7 @@ fn with_lost_tries(taken: u32) -> u32 {
     taken.max(taken.saturating_mul(2).min(Limits::MOST))
 }
 
-/// What is left of a pass's share.
+/// What is left of a pass's share; where the dictionary lasts, until a rest adds to it.
 ///
 /// ```
 /// let mut passes = regnubas::make(1, regnubas::Limits { nodes: 300, scx: 100, tries: 100 })?;

@@ -66,8 +66,8 @@ pub fn make_trie(passes: usize, each: Limits) -> Result<Vec<Pass>, Fault> {
     begun(passes, each, &[], true)
 }
 
-/// A dictionary that lasts: what its passes have used up comes back to them as they
-/// [`rest`](Pass::rest), so the limits are of what is in use at a time. A call makes one try.
+/// A dictionary that lasts, with this many passes, 1 to 32: what its passes have used up comes back
+/// to them as they [`rest`](Pass::rest).
 ///
 /// ```
 /// use regnubas::{make_lasting, Limits};
@@ -79,11 +79,36 @@ pub fn make_trie(passes: usize, each: Limits) -> Result<Vec<Pass>, Fault> {
 /// }
 /// # Ok::<(), regnubas::Fault>(())
 /// ```
+///
+/// The limits have the ranges that [`Limits`] says, but are of what is in use at a time: the nodes
+/// of the map that the pass has made, the SCX-records of its changes that were the last at a node
+/// of the map, and what has not come back yet, which is what it takes in four rests or more. So
+/// take ten times a pass's part of the pairs, and no less than its calls take in four rests. With
+/// fewer than three nodes no first key goes in. A call makes one try, whatever `tries` says.
+///
+/// After [`Fault::Contended`] call again at once; after [`Fault::Full`] rest, and call again: the
+/// example at [`again`](crate::again) does both. What is dead by then comes back in some four
+/// rests, if these wait for nobody; in a trie, what pops leave may take one more for each 64 nodes
+/// of the share. [`rest`](Pass::rest) says for which pass it waits: until that one rests, goes away
+/// or is dropped, nothing comes back. A call that stays `Full` while rests wait for nobody needs a
+/// larger share.
+///
+/// It may have more pairs than there are nodes, since a leaf is one node and has up to four pairs:
+/// [`close`](Pass::close) takes room for `2 * passes * nodes` pairs, 24 bytes each, and for those
+/// that it returns.
+///
+/// The table takes, with `n = 3 + passes * nodes` and `s = 1 + passes * scx`, and with `A` and `B`,
+/// the least powers of two above these, `8 * max(18 * A, 18 * n + 14 * B)` bytes, or up to 2 KB
+/// more; in a trie 24 for 18. That is 386 MB at most, in a trie 436 MB. While it is made it takes
+/// up to three times that. Besides, a pass keeps a number and a byte for each of its nodes and
+/// SCX-records. `close` takes `8 * (18 * n + 14 * s)` bytes more.
+///
+/// A pass can go round its share 2^28 times at least; then it stays `Full` for ever.
 pub fn make_lasting(passes: usize, each: Limits) -> Result<Vec<Pass>, Fault> {
     lasting(passes, each, false)
 }
 
-/// The same, but a trie.
+/// The same, but a trie: it stays low also where keys come in order.
 ///
 /// ```
 /// use regnubas::{make_lasting_trie, Limits};
@@ -389,8 +414,9 @@ impl Pass {
         Ok(room[..count.pairs as usize].iter().map(Pair::numbers).collect())
     }
 
-    /// Rests, between two calls: returns the place of the pass that it waits for, among those that
-    /// were made. A pass of a dictionary that lasts that neither rests nor is away holds up all
+    /// Rests, between two calls, ten or a hundred of them, and after [`Fault::Full`]: returns the
+    /// place of the pass that it waits for, among those that were made, from 0 on. Either way it
+    /// may go on. A pass of a dictionary that lasts that neither rests nor is away holds up all
     /// others; one of another dictionary waits for nobody.
     ///
     /// ```
@@ -427,7 +453,7 @@ impl Pass {
         Away { pass: self }
     }
 
-    /// What is left of the pass's share.
+    /// What is left of the pass's share; where the dictionary lasts, until a rest adds to it.
     ///
     /// ```
     /// # let mut pass = regnubas::make(1, regnubas::Limits::for_changes(10, 10))?.remove(0);
