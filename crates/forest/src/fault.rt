@@ -51,8 +51,8 @@ pub enum UpdateFault {
     /// same call may be made again at once.
     #[error("contended: SCX-record {scx} was in the way, over node {node}")]
     Contended { node: NodeNo, scx: ScxNo },
-    /// The pass's share has too little left for the next try, now and ever. Another pass may have
-    /// enough.
+    /// The pass's share has too little left for the next try. If records come back it may have
+    /// enough after rests; if not it never will. Another pass may have enough.
     #[error(transparent)]
     Full(Full),
 }

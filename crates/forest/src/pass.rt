@@ -171,7 +171,7 @@ impl<S: TableShape> Pass<S> {
         next.0 - self.first_scx.0
     }
 
-    /// How many nodes and SCX-records are left of its share: never more than before.
+    /// How many nodes and SCX-records are left of its share. Only rests make them more.
     pub fn left(&self) -> (u32, u32)
         ensures { result ≡ (self.now.share.nodes, self.now.share.scx) }
     {
