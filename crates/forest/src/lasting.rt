@@ -116,8 +116,7 @@ impl<K: WordKey, V: WordValue, B: FixedBalance> Forest<Dict<K, V, Lasts<B>>> {
         requires run { IsRun (TypedAllows (IsWordOf K.is_valid K.word_of) (IsWordOf V.is_valid V.word_of))
             plot.layout (Opened (opening_for plot.planting)) }
         ensures opens { IfOk result (λ r. OpensInTurns plot.layout r.0 r.1.items) }
-        ensures planting { IfOk result (λ r. r.0.planting ≡ plot.planting) }
-        ensures tries { IfOk result (λ r. r.0.tries ≡ tries) }
+        ensures kept { IfOk result (λ r. (r.0.planting ≡ plot.planting) × (r.0.tries ≡ tries)) }
     {
         let Plot { layout, planting } = plot;
         let turns = Turns::of(&layout);

@@ -66,10 +66,9 @@ impl<S: Shape> Words<S> {
     ) -> Result<(Words<S>, Seat<u8, SeatView>), NoMemory>
         requires turns { site.now.turns ≡ Some turns }
         requires mode { site.now.planting.mode ≡ site.now.layout.mode }
-        requires few { HasFewNames site.now.layout }
-        requires may { MayTakeTurns site.now.layout turns }
-        requires run { IsRun S.allows (names_of_table site.now) (Opened (opening_for site.now.planting)) }
-        requires map { IsMapRun (names_of_table site.now) (Opened (opening_for site.now.planting)) }
+        requires may { HasFewNames site.now.layout × MayTakeTurns site.now.layout turns }
+        requires run { IsRun S.allows (names_of_table site.now) (Opened (opening_for site.now.planting))
+            × IsMapRun (names_of_table site.now) (Opened (opening_for site.now.planting)) }
         ensures key { IfOk result (λ w. w.0.table.shared.key ≡ site.now) }
         ensures table { IfOk result
             (λ w. (w.0.table.shared.table_id.slots ≡ 0)

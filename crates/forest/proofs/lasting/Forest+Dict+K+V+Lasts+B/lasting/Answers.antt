@@ -18,7 +18,7 @@ returns-in-Ok-with_turns-clause-begins g c = record {
   is_layout = search rules;
   opens = c.in-Ok-with_turns.ensures.opens;
   empty = search rules;
-  tries = c.in-Ok-with_turns.ensures.tries;
+  tries = c.in-Ok-with_turns.ensures.kept.1;
 }
 
 pub returns-in-Ok-with_turns-clause-passes : goal.returns-in-Ok-with_turns-clause-passes

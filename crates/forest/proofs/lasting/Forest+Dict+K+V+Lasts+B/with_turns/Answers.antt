@@ -19,14 +19,16 @@ use Rattle.tables.specs.declared.table_plan.TablePlan.{TablePlan}
 use Rattle.tables.proofs.LastingTables.{many_names, opening_in_turns, turned_table}
 use Rattle.forest.proofs.lasting.Forest+Dict+K+V+Lasts+B.with_turns.Goals as goal
 
-pub open_in_turns-requires-clause-run : goal.open_in_turns-requires-clause-run
-open_in_turns-requires-clause-run g c = opening_in_turns (IsWordOf g.K.WordKey.is_valid g.K.WordKey.word_of) (IsWordOf g.V.WordValue.is_valid g.V.WordValue.word_of) c.args.plot.layout c.of-turns.result (opening_for c.args.plot.planting) c.requires.run
+pub open_in_turns-requires-clause-may : goal.open_in_turns-requires-clause-may
+open_in_turns-requires-clause-may g c = (c.requires.few, c.of-turns.ensures.may)
 
-pub open_in_turns-requires-clause-map : goal.open_in_turns-requires-clause-map
-open_in_turns-requires-clause-map g c = (
-  dict_mode c.args.plot.layout.mode (g.B.Balance.trie g.B.FixedBalance.the) c.requires.mode,
-  typed_run (IsWordOf g.K.WordKey.is_valid g.K.WordKey.word_of) (IsWordOf g.V.WordValue.is_valid g.V.WordValue.word_of) (in_turns c.args.plot.layout c.of-turns.result).lay (Opened (opening_for c.args.plot.planting)) (opening_in_turns (IsWordOf g.K.WordKey.is_valid g.K.WordKey.word_of) (IsWordOf g.V.WordValue.is_valid g.V.WordValue.word_of) c.args.plot.layout c.of-turns.result (opening_for c.args.plot.planting) c.requires.run),
-)
+pub open_in_turns-requires-clause-run : goal.open_in_turns-requires-clause-run
+open_in_turns-requires-clause-run g c =
+    let run = opening_in_turns (IsWordOf g.K.WordKey.is_valid g.K.WordKey.word_of) (IsWordOf g.V.WordValue.is_valid g.V.WordValue.word_of) c.args.plot.layout c.of-turns.result (opening_for c.args.plot.planting) c.requires.run in (
+      run,
+      dict_mode c.args.plot.layout.mode (g.B.Balance.trie g.B.FixedBalance.the) c.requires.mode,
+      typed_run (IsWordOf g.K.WordKey.is_valid g.K.WordKey.word_of) (IsWordOf g.V.WordValue.is_valid g.V.WordValue.word_of) (in_turns c.args.plot.layout c.of-turns.result).lay (Opened (opening_for c.args.plot.planting)) run,
+    )
 
 pub passes_in_turns-requires-clause-seat : goal.passes_in_turns-requires-clause-seat
 passes_in_turns-requires-clause-seat g c = (c.in_ok-words.ensures.seat.0 ∙ ap (λ (s : Site). first_view (in_turns c.args.plot.layout c.of-turns.result) s.planting) (sym c.in_ok-words.ensures.key), c.in_ok-words.ensures.seat.1)

@@ -17,7 +17,7 @@ use Rattle.tables.proofs.words.Words.open_in_turns.Goals as goal
 
 pub words-requires-clause-room : goal.words-requires-clause-room
 unfolding Lawful
-words-requires-clause-room g c = subst (λ (o : Option Turns). (opening_for c.args.site.now.planting).planted ≤ (slots_by c.args.site.now.layout o).lay.planted) c.requires.turns c.requires.run.lawful.1
+words-requires-clause-room g c = subst (λ (o : Option Turns). (opening_for c.args.site.now.planting).planted ≤ (slots_by c.args.site.now.layout o).lay.planted) c.requires.turns c.requires.run.0.lawful.1
 
 -- the words of the planting, and zeros behind them, are those with which a table that lasts opens
 opens : (allows : Layout → History → ℕ → Type 0) (lay : Layout) (t : Turns) (planting : PlantingView) (first words : List ℕ) → HasFewNames lay → MayTakeTurns lay t → HasWordsFor lay t (length words) → IsMapRun (in_turns lay t).lay (Opened (opening_for planting)) → IsRun allows (in_turns lay t).lay (Opened (opening_for planting))
@@ -43,9 +43,9 @@ of_words-requires g c =
     let first = c.words-2 in
     let wide = c.in_ok-words.ensures in
     let all = c.in_ok-words.words.items in
-    let opened : OpensLasting allows (in_turns site.layout t) site.planting all = opens allows site.layout t site.planting first.result.now all c.requires.few c.requires.may (subst (HasWordsFor site.layout t) (sym wide.size) c.size_in_turns.ensures)
-    (subst (λ (o : Option Turns). IsMapRun (slots_by site.layout o).lay (Opened (opening_for site.planting))) turns c.requires.map)
-    (subst (λ (o : Option Turns). IsRun allows (slots_by site.layout o).lay (Opened (opening_for site.planting))) turns c.requires.run)
+    let opened : OpensLasting allows (in_turns site.layout t) site.planting all = opens allows site.layout t site.planting first.result.now all c.requires.may.0 c.requires.may.1 (subst (HasWordsFor site.layout t) (sym wide.size) c.size_in_turns.ensures)
+    (subst (λ (o : Option Turns). IsMapRun (slots_by site.layout o).lay (Opened (opening_for site.planting))) turns c.requires.run.1)
+    (subst (λ (o : Option Turns). IsRun allows (slots_by site.layout o).lay (Opened (opening_for site.planting))) turns c.requires.run.0)
     (first.ensures.size ∙ ap table_size laid.layout)
     (placed c.in_ok-opening.opening first.result.now site.layout (opening_for site.planting).words laid.layout first.ensures.words laid.words)
     wide.words (λ k from less. wide.zeros k from (subst (λ n. k < n) wide.size less)) in
