@@ -148,7 +148,7 @@ uint32_t regnubas_make_trie(regnubas_limits each, regnubas_pass *passes, size_t 
  * times that. Besides, a pass keeps a number and a byte for each of its nodes and SCX-records. Its
  * end takes 8 * (18 * n + 14 * s) bytes, and room for the pairs.
  *
- * A pass can go round its share 2^28 times at least; then it stays FULL for ever. */
+ * A pass can go round its share 2^28 times at least (2^20 is proved); then it stays FULL. */
 uint32_t regnubas_make_lasting(regnubas_limits each, regnubas_pass *passes, size_t count);
 uint32_t regnubas_make_lasting_trie(regnubas_limits each, regnubas_pass *passes, size_t count);
 

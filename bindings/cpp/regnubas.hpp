@@ -221,7 +221,7 @@ public:
     // to three times that. Besides, a pass keeps a number and a byte for each of its nodes and
     // SCX-records. `close` takes 8 * (18 * n + 14 * s) bytes more.
     //
-    // A pass can go round its share 2^28 times at least; then it stays `full` for ever.
+    // A pass can go round its share 2^28 times at least (2^20 is proved); then it stays `full`.
     static result<std::vector<pass>> try_make_lasting(std::size_t count, regnubas_limits each,
                                                       shape is = shape::tree) {
         return made(count, 2 * count * each.nodes, is, [=](regnubas_pass *raw) {

@@ -535,7 +535,7 @@ def make(
     three times that. Besides, a pass keeps a number and a byte for each of its nodes and
     SCX-records. `close` takes 8 * (18 * n + 14 * s) bytes more.
 
-    A pass can go round its share 2**28 times at least; then it stays `Full` for ever.
+    A pass can go round its share 2**28 times at least (2**20 is proved); then it stays `Full`.
     """
     each = _limits(nodes, scx, tries, changes, new_keys)
     if lasting:

@@ -103,7 +103,7 @@ pub fn make_trie(passes: usize, each: Limits) -> Result<Vec<Pass>, Fault> {
 /// up to three times that. Besides, a pass keeps a number and a byte for each of its nodes and
 /// SCX-records. `close` takes `8 * (18 * n + 14 * s)` bytes more.
 ///
-/// A pass can go round its share 2^28 times at least; then it stays `Full` for ever.
+/// A pass can go round its share 2^28 times at least (2^20 is proved); then it stays `Full`.
 pub fn make_lasting(passes: usize, each: Limits) -> Result<Vec<Pass>, Fault> {
     lasting(passes, each, false)
 }
