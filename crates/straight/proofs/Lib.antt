@@ -14,4 +14,5 @@ pub mod StraightReading
 pub mod StraightUpdate
 pub mod StraightGuard
 pub mod StraightTries
+pub mod StraightHands
 pub mod StraightCalls

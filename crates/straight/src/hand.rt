@@ -41,9 +41,9 @@ impl<'a, S: TableShape> Hand<'a, S> {
     #[inline(always)]
     pub fn by_copy(self, plan: &'a TablePlan) -> Hand<'a, S>
         requires copied { plan.now ≡ self.plan.now }
-        ensures words { result.words ≡ self.words }
-        ensures plan { result.plan.now ≡ self.plan.now }
-        ensures number { result.number ≡ self.number }
+        ensures words { result.words ≡ self.entry.words }
+        ensures plan { result.plan.now ≡ self.entry.plan.now }
+        ensures number { result.number ≡ self.entry.number }
     {
         if S::lasts() {
             Hand {

@@ -9,10 +9,10 @@ use Rattle.straight.proofs.ordered_read.go_on.Goals.{In-Load-Head}
 use Rattle.straight.proofs.ordered_read.go_on.Goals as goal
 
 pub look_next-requires-clause-table : goal.look_next-requires-clause-table
-look_next-requires-clause-table g c = at_copy c.by_copy-own.result c.args.hand c.by_copy-own.ensures.words c.by_copy-own.ensures.plan c.requires.table
+look_next-requires-clause-table g c = at_copy c.by_copy-own.result c.args.hand c.by_copy-own.ensures.words c.args.seat.now c.by_copy-own.ensures.plan c.requires.table
 
 pub look_next-requires-clause-waits : goal.look_next-requires-clause-waits
-look_next-requires-clause-waits g c = reads_by_copy c.by_copy-own.result c.args.hand c.by_copy-own.ensures.words c.by_copy-own.ensures.number c.requires.waits
+look_next-requires-clause-waits g c = reads_by_copy c.by_copy-own.result c.args.hand c.by_copy-own.ensures.words c.by_copy-own.ensures.number g.S.Shape g.M.Machine g.M.CallMachine.left_dealt g.R.Read.means c.args.seat.now c.args.run.now c.args.first c.requires.waits
 
 pub leave-requires-clause-stops : goal.leave-requires-clause-stops
 leave-requires-clause-stops g c = let w = c.requires.waits in (w.0, (reads_own c.by_copy-own.result c.args.hand c.by_copy-own.ensures.words c.by_copy-own.ensures.number c.in-Err.ensures).to w.0 w.1)
@@ -28,7 +28,7 @@ at_node : (g : Over) (c : In-Load-Head g) → ReadGoesOn g.S.Shape g.M.Machine g
 at_node g c = reads_on c.loop-next.invariant.goes_on (reads_as (c.in-Load-Head.is ∙ ap Load (rw c.in-Load-Head.is at c.in-Load-Head.field-0-is)))
 
 pub go_through-requires-clause-waits : goal.go_through-requires-clause-waits
-go_through-requires-clause-waits g c = let w = c.requires.waits in reads_by_copy c.by_copy-own.result c.args.hand c.by_copy-own.ensures.words c.by_copy-own.ensures.number (w.0, (at_node g (goal.at.go_through-requires-clause-waits g c).In-Load-Head).to w.0 w.1)
+go_through-requires-clause-waits g c = let w = c.requires.waits in reads_by_copy c.by_copy-own.result c.args.hand c.by_copy-own.ensures.words c.by_copy-own.ensures.number g.S.Shape g.M.Machine g.M.CallMachine.left_dealt g.R.Read.means c.loop-next.seat c.loop-next.run (Load (Head c.in-Load-Head.above c.in-Load-Head.node)) (w.0, (at_node g (goal.at.go_through-requires-clause-waits g c).In-Load-Head).to w.0 w.1)
 
 pub leave-requires-in-Err-go_through-clause-stops : goal.leave-requires-in-Err-go_through-clause-stops
 leave-requires-in-Err-go_through-clause-stops g c = let w = c.requires.waits in (w.0, (reads_on (at_node g (goal.at.leave-requires-in-Err-go_through-clause-stops g c).In-Load-Head) (reads_own c.by_copy-own.result c.args.hand c.by_copy-own.ensures.words c.by_copy-own.ensures.number c.in-Err-go_through.ensures)).to w.0 w.1)

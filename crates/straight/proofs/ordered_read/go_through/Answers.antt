@@ -1,8 +1,8 @@
 use Rattle.straight.proofs.StraightReading.{reads_on}
 use Rattle.straight.proofs.ordered_read.go_through.Goals as goal
 
-pub read_pairs-last-requires-clause-waits : goal.read_pairs-last-requires-clause-waits
-read_pairs-last-requires-clause-waits g c = let w = c.requires.waits in (w.0, c.in-Ok.ensures.to w.0 w.1)
+pub read_pairs-requires-clause-waits : goal.read_pairs-requires-clause-waits
+read_pairs-requires-clause-waits g c = let w = c.requires.waits in (w.0, c.in-Ok.ensures.to w.0 w.1)
 
 pub returns-in-Err-read_pairs : goal.returns-in-Err-read_pairs
 returns-in-Err-read_pairs g c = reads_on c.in-Ok.ensures c.in-Err-read_pairs.ensures

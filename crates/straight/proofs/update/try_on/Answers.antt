@@ -11,10 +11,10 @@ use Rattle.straight.proofs.update.try_on.Goals.{After-work_on}
 use Rattle.straight.proofs.update.try_on.Goals as goal
 
 pub work_on-requires-clause-table : goal.work_on-requires-clause-table
-work_on-requires-clause-table g c = at_copy c.by_copy.result c.args.hand c.by_copy.ensures.words c.by_copy.ensures.plan c.requires.table
+work_on-requires-clause-table g c = at_copy c.by_copy.result c.args.hand c.by_copy.ensures.words c.args.seat.now c.by_copy.ensures.plan c.requires.table
 
 pub work_on-requires-clause-goes_on : goal.work_on-requires-clause-goes_on
-work_on-requires-clause-goes_on g c = tries_by_copy c.by_copy.result c.args.hand c.by_copy.ensures.words c.by_copy.ensures.number c.requires.goes_on
+work_on-requires-clause-goes_on g c = tries_by_copy c.by_copy.result c.args.hand c.by_copy.ensures.words c.by_copy.ensures.number g.S.Shape g.M.Machine g.M.CallMachine.left_dealt g.E.Edit.means c.args.found.now c.args.seat.now c.args.run.now c.args.next c.requires.goes_on
 
 -- after its looks, loads and fills, by the copy of the plan, it continues so
 worked : (g : Over) (c : After-work_on g) (next : Result Next Stop) → c.work_on.result ≡ next → TryGoesOn g.S.Shape g.M.Machine g.M.CallMachine.left_dealt g.E.Edit.means c.args.hand c.args.found.now c.args.seat.now c.args.run.now c.args.next c.work_on.new.seat c.work_on.new.run next

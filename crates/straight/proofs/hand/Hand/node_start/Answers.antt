@@ -1,4 +1,4 @@
-use Rattle.std.proofs.Common.{◌≡◌, ◌<◌, ◌*◌, ◌∙◌, ℕ, arith, bit_and, refl, subst, sym}
+use Rattle.std.proofs.Common.{◌≡◌, ◌<◌, ◌*◌, ◌∙◌, arith, bit_and, refl, subst, sym}
 use Rattle.arena.specs.Opening.{node_size}
 use Rattle.histories.specs.Common.{Layout, all_nodes}
 use Rattle.straight.specs.Hands.{hand_slots}

@@ -1,4 +1,4 @@
-use Rattle.std.proofs.Common.{◌≡◌, ◌+◌, ◌<◌, ◌*◌, ◌%◌, ◌∙◌, ℕ, arith, subst, sym}
+use Rattle.std.proofs.Common.{◌≡◌, ◌+◌, ◌<◌, ◌*◌, ◌%◌, ◌∙◌, arith, subst, sym}
 use Rattle.straight.specs.Hands.{hand_slots}
 use Rattle.tables.proofs.Slotted.{scx_begins_at, scx_begins_low, scx_masked, scx_unmasked}
 use Rattle.straight.proofs.hand.Hand.scx_start.Given.{Over}
