@@ -26,8 +26,10 @@ pub open_in_turns-requires-clause-run : goal.open_in_turns-requires-clause-run
 open_in_turns-requires-clause-run g c =
     let run = opening_in_turns (IsWordOf g.K.WordKey.is_valid g.K.WordKey.word_of) (IsWordOf g.V.WordValue.is_valid g.V.WordValue.word_of) c.args.plot.layout c.of-turns.result (opening_for c.args.plot.planting) c.requires.run in (
       run,
-      dict_mode c.args.plot.layout.mode (g.B.Balance.trie g.B.FixedBalance.the) c.requires.mode,
-      typed_run (IsWordOf g.K.WordKey.is_valid g.K.WordKey.word_of) (IsWordOf g.V.WordValue.is_valid g.V.WordValue.word_of) (in_turns c.args.plot.layout c.of-turns.result).lay (Opened (opening_for c.args.plot.planting)) run,
+      (
+        dict_mode c.args.plot.layout.mode (g.B.Balance.trie g.B.FixedBalance.the) c.requires.mode,
+        typed_run (IsWordOf g.K.WordKey.is_valid g.K.WordKey.word_of) (IsWordOf g.V.WordValue.is_valid g.V.WordValue.word_of) (in_turns c.args.plot.layout c.of-turns.result).lay (Opened (opening_for c.args.plot.planting)) run,
+      ),
     )
 
 pub passes_in_turns-requires-clause-seat : goal.passes_in_turns-requires-clause-seat
