@@ -1,6 +1,6 @@
-use Rattle.std.proofs.Common.{rules, ◌≡◌, ◌∙◌, refl, sym, ap, subst}
-use Rattle.histories.specs.Common.{Mode, Opened, IsRun}
-use Rattle.planting.specs.Plantings.{PlantingView, nothing_planted, opening_for}
+use Rattle.std.proofs.Common.{rules, sym, subst}
+use Rattle.histories.specs.Common.{Opened, IsRun}
+use Rattle.planting.specs.Plantings.{PlantingView, opening_for}
 use Rattle.dict.specs.Typed.{TypedAllows}
 use Rattle.dict.specs.Words.{IsWordOf}
 use Rattle.forest.proofs.Crowds.{new_in_turns_are_of}

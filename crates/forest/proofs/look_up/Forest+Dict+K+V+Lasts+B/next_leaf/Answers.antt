@@ -1,4 +1,4 @@
-use Rattle.std.proofs.Common.{◌∙◌, refl, subst, sym}
+use Rattle.std.proofs.Common.{refl, subst, sym}
 use Rattle.histories.specs.Common.{Layout}
 use Rattle.dict.specs.Laws.Begins.{dict_mode}
 use Rattle.dict.specs.Laws.TypedMaps.{typed_run}
