@@ -449,32 +449,6 @@ fn rest<S: TableShape, M: CallMachine<S>, R: Read + Drop>(
     }
 }
 
-/// Goes through a node: loads its head, and the pairs of a leaf, and looks at a fork if that is next.
-#[inline(always)]
-fn go_through<S: TableShape, M: CallMachine<S>, R: Read + Drop>(
-    hand: Hand<S>,
-    seat: &mut Seat<u8, SeatView>,
-    run: &mut ReadRun<R>,
-    above: u64,
-    node: NodeNo,
-) -> Result<ReadNext, ReadStop>
-    requires table { IsAt S.mode S.lasts hand seat.old }
-    requires waits { StandsToRead S.Shape M.Machine M.left_dealt R.means hand
-        seat.old run.old (ReadNext.Load (ReadLoad.Head above node)) }
-    ensures { ReadGoesOn S.Shape M.Machine M.left_dealt R.means hand.entry 1
-        seat.old run.old (Ok (ReadNext.Load (ReadLoad.Head above node))) seat.new run.new result }
-{
-    let first = match read_node::<S, M, R>(hand, seat, run, above, node) {
-        Ok(next) => next,
-        Err(stop) => return Err(stop),
-    };
-    let last = match read_pairs::<S, M, R>(hand, seat, run, first) {
-        Ok(next) => next,
-        Err(stop) => return Err(stop),
-    };
-    look_next::<S, M, R>(hand, seat, run, last)
-}
-
 /// Makes what is left of a try from this on.
 #[inline(always)]
 fn go_on<S: TableShape, M: CallMachine<S>, R: Read + Drop>(
@@ -498,7 +472,15 @@ fn go_on<S: TableShape, M: CallMachine<S>, R: Read + Drop>(
     loop {
         match next {
             ReadNext::Load(ReadLoad::Head { above, node }) => {
-                next = match go_through::<S, M, R>(own, seat, run, above, node) {
+                let behind = match read_node::<S, M, R>(own, seat, run, above, node) {
+                    Ok(behind) => behind,
+                    Err(stop) => return leave::<S, M, R>(hand, seat, run, stop),
+                };
+                let behind = match read_pairs::<S, M, R>(own, seat, run, behind) {
+                    Ok(behind) => behind,
+                    Err(stop) => return leave::<S, M, R>(hand, seat, run, stop),
+                };
+                next = match look_next::<S, M, R>(own, seat, run, behind) {
                     Ok(after) => after,
                     Err(stop) => return leave::<S, M, R>(hand, seat, run, stop),
                 };
